@@ -1,0 +1,30 @@
+-- Each ◆ case of document 01 holds of the definitions: one equation that antt computes over the whole table, and from it the
+-- equation of each case.
+-- Assumes nothing.
+use mathlib.Core.Path.{_≡_, refl, sym, ap, _∙_}
+use mathlib.Core.List.{List, [], _∷_, map, tail, headD, flatten, List·Memᴰ, List·Memᴰ·not-nil, List·Memᴰ·cases-cons}
+use mathlib.Core.Logic.{⊎-elim}
+use lib.Ieee
+use Rattle.spec.specs.Words.{sum, tab, total, product, everywhere, keep, occurs}
+use Rattle.spec.specs.Recipe.{box, convolve, kernel, order, gain}
+use Rattle.spec.specs.Picture.{pixel, pixelBack, exact, fullWidth, fullHeight, fullRow, full}
+use Rattle.spec.specs.Gray.{gray, places, sameSum, sameGray, nearest, nearestDifference, difference, float, ratio, squares, variance}
+use Rattle.spec.specs.Same.{struck, sameCounts, equivalent}
+use Rattle.spec.specs.Cases.{Case, numbers, output, along, both, picture, twos, table}
+
+-- the test over the whole table
+all : map (λ (c : Case). output (c .question)) table ≡ map (λ (c : Case). c .expected) table
+unfolding sum tab total product everywhere keep occurs box convolve kernel order gain pixel pixelBack exact fullWidth fullHeight fullRow full flatten gray places sameSum sameGray nearest nearestDifference difference float ratio squares variance struck sameCounts equivalent numbers output along both picture twos table Ieee.toBits Ieee.ofInt Ieee.div Ieee.round Ieee.units Ieee.odd Ieee.size Ieee.climb Ieee.span
+all = refl
+
+-- where two functions agree over a list, they agree at each member
+at-member : {A B : Type 0} (f g : A → B) (l : List A) → map f l ≡ map g l → (a : A) → List·Memᴰ a l → f a ≡ g a
+unfolding headD
+at-member f g [] e a m = absurd (List·Memᴰ·not-nil m)
+at-member f g (x ∷ xs) e a m =
+    let rest : List·Memᴰ a xs → f a ≡ g a = at-member f g xs (ap tail e) a in
+    ⊎-elim (λ h. ap f h ∙ ap (λ l. headD l (f x)) e ∙ sym (ap g h)) rest (List·Memᴰ·cases-cons m)
+
+-- every case of the table holds
+pub holds : (c : Case) → List·Memᴰ c table → output (c .question) ≡ c .expected
+holds = at-member (λ (c : Case). output (c .question)) (λ (c : Case). c .expected) table all

@@ -1,0 +1,84 @@
+-- Document 01, "Greys, differences, readings".
+use mathlib.Core.Bool.{cond}
+use mathlib.Core.List.{List, flatten}
+use Prim.Native.Nat.{ℕ, _+_, _-_, _*_, _/_}
+use lib.Dec.{leb}
+use lib.Ieee.{Float, binary64, div, ofInt}
+use lib.IntN.{ℤ, pos, negℤ}
+use Rattle.spec.specs.Words.{tab, total}
+use Rattle.spec.specs.Recipe.{Recipe, order, gain}
+use Rattle.spec.specs.Picture.{Picture, exact}
+
+-- Rounding: grey = (sum + weight / 2) / weight, both divisions downwards.
+unfoldable pub gray : ℕ → ℕ → ℕ
+gray weight s = (s + weight / 2) / weight
+
+-- f at each picture place (i, j), row by row
+unfoldable pub places {ℓ} : {A : Type ℓ} → Picture → (ℕ → ℕ → A) → List A
+places p f = flatten (tab (p .height) (λ j. tab (p .width) (λ i. f i j)))
+
+-- Same-size blur: for picture place (i, j) it takes grown place (i + rx / 2, j + ry / 2), halves downwards.
+unfoldable pub sameSum : Recipe → Picture → ℕ → ℕ → ℕ
+sameSum r p i j = exact r p (i + order (r .rows) / 2) (j + order (r .columns) / 2)
+
+unfoldable pub sameGray : Recipe → Picture → ℕ → ℕ → ℕ
+sameGray r p i j = gray (gain r) (sameSum r p i j)
+
+-- m / d rounded to the nearest whole number, a half upwards
+unfoldable pub nearest : ℕ → ℕ → ℕ
+nearest m d = (2 * m + d) / (2 * d)
+
+-- (x - y) / d rounded to the nearest whole number, a half away from zero
+unfoldable pub nearestDifference : ℕ → ℕ → ℕ → ℤ
+nearestDifference x y d = cond (leb y x) (pos (nearest (x - y) d)) (negℤ (pos (nearest (y - x) d)))
+
+-- Difference of recipes A and B at a picture place: (sumA times weightB - sumB times weightA) over weightA times weightB, rounded so.
+unfoldable pub difference : Recipe → Recipe → Picture → ℕ → ℕ → ℤ
+difference a b p i j = nearestDifference (sameSum a p i j * gain b) (sameSum b p i j * gain a) (gain a * gain b)
+
+-- an exact integer made a 64-bit float, and the quotient of two of them by one division
+unfoldable pub float : ℕ → Float
+float n = ofInt binary64 (pos n)
+
+unfoldable pub ratio : ℕ → ℕ → Float
+ratio m d = div binary64 (float m) (float d)
+
+-- Reading at one picture place, from the sum of the same-size blur: the grey, the exact sum, or the quotient sum / weight.
+pub data Reading : Type 0 where
+  grayReading : ℕ → Reading
+  sumReading : ℕ → Reading
+  quotientReading : Float → Reading
+
+-- which of the three is chosen
+pub data Choice : Type 0 where
+  asGray asSum asQuotient : Choice
+
+unfoldable pub reading : Choice → Recipe → Picture → ℕ → ℕ → Reading
+reading asGray r p i j = grayReading (sameGray r p i j)
+reading asSum r p i j = sumReading (sameSum r p i j)
+reading asQuotient r p i j = quotientReading (ratio (sameSum r p i j) (gain r))
+
+-- Variance of a list: the sum of (n times n - 1), divided by 12 once.
+unfoldable pub squares : List ℕ → ℕ
+squares ns = total (λ n. n * n - 1) ns
+
+unfoldable pub variance : List ℕ → Float
+variance ns = ratio (squares ns) 12
+
+-- Scale card of a recipe: weight, both reaches, and for each axis the variance.
+pub record ScaleCard : Type 0 where
+  pub weight : ℕ
+  pub rowReach : ℕ
+  pub columnReach : ℕ
+  pub rowVariance : Float
+  pub columnVariance : Float
+
+unfoldable pub scaleCard : Recipe → ScaleCard
+scaleCard r =
+    record {
+      weight = gain r;
+      rowReach = order (r .rows);
+      columnReach = order (r .columns);
+      rowVariance = variance (r .rows);
+      columnVariance = variance (r .columns);
+    }

@@ -1,0 +1,9 @@
+pub mod Words
+pub mod Recipe
+pub mod Picture
+pub mod Stream
+pub mod Gray
+pub mod Same
+pub mod Job
+pub mod Refusals
+pub mod Cases

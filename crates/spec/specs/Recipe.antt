@@ -1,0 +1,41 @@
+-- Document 01, "Recipe and exact sum", its first part: the recipe, its coefficients, reaches and weight.
+use mathlib.Core.List.{List, [], _∷_}
+use Prim.Native.Nat.{ℕ, suc, _+_, _-_, _*_}
+use lib.ListN.{length, getD, replicate}
+use Rattle.spec.specs.declared.Cascade.{Cascade}
+use Rattle.spec.specs.declared.Filter.{Filter}
+use Rattle.spec.specs.Words.{sum, tab, part, total, product}
+
+-- Recipe: a row list and a column list of box widths.
+pub record Recipe : Type 0 where
+  pub rows : List ℕ
+  pub columns : List ℕ
+
+-- the list that a cascade holds: as many widths as its count says
+unfoldable pub widths : Cascade → List ℕ
+widths c = part 0 (c .count) (c .widths)
+
+-- the recipe that a filter holds
+unfoldable pub recipe : Filter → Recipe
+recipe f = record { rows = widths (f .rows); columns = widths (f .columns) }
+
+-- Box of width n: n coefficients 1, at 0 to n - 1.
+unfoldable pub box : ℕ → List ℕ
+box n = replicate n 1
+
+-- two lists of coefficients convolved: at k the sum of p[a] times q[k - a] over a of 0 to k
+unfoldable pub convolve : List ℕ → List ℕ → List ℕ
+convolve p q = tab (length p + length q - 1) (λ k. sum (suc k) (λ a. getD p a 0 * getD q (k - a) 0))
+
+-- Coefficients of a list, R or C: those of its boxes convolved; the empty list gives the single 1.
+unfoldable pub kernel : List ℕ → List ℕ
+kernel [] = 1 ∷ []
+kernel (n ∷ ns) = convolve (box n) (kernel ns)
+
+-- Reach of a list: the sum of (n - 1).
+unfoldable pub order : List ℕ → ℕ
+order ns = total (λ n. n - 1) ns
+
+-- Weight: the product of all widths in both lists.
+unfoldable pub gain : Recipe → ℕ
+gain r = product (r .rows) * product (r .columns)
