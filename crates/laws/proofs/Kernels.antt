@@ -1,0 +1,98 @@
+-- The coefficients of a cascade of boxes: their length, each of them as a sequence, and how large they can be.
+-- Assumes nothing.
+use mathlib.Core.Path.{_≡_, refl, sym, ap, ap₂, _∙_}
+use mathlib.Core.Bool.{true, false, cond}
+use mathlib.Core.List.{List, [], _∷_}
+use Prim.Native.Nat.{ℕ, zero, suc, _+_, _-_, _*_, _≤_, _<_}
+use native.Mathlib.Nat.{le-refl, le-trans, le-of-eq, mul-zero, zero-mul, mul-le-mul-left}
+use native.Mathlib.Decide.{decLt, decLe}
+use native.Mathlib.Omega.{arith}
+use lib.Dec.{ltb}
+use lib.ListN.{length, getD, replicate, length-replicate, getD-replicate, List·getD-eq-default}
+use borrow.Author.Tests.{lt-ltb, le-ltb}
+use Rattle.spec.specs.Words.{sum, total, product}
+use Rattle.spec.specs.Recipe.{box, convolve, kernel, order}
+use Rattle.laws.proofs.Sums.{sum-agree, sum-first, sum-zero}
+use Rattle.laws.proofs.Lists.{length-tab, getD-tab, getD-tab-past}
+use Rattle.laws.proofs.Sequences.{boxed, boxed-sum}
+use Rattle.laws.proofs.Convolution.{conv, ones, conv-agree, boxed-conv}
+
+-- a list as a sequence: 0 past its end
+unfoldable pub at : List ℕ → ℕ → ℕ
+at xs k = getD xs k 0
+
+pub at-past : (xs : List ℕ) (k : ℕ) → length xs ≤ k → at xs k ≡ 0
+unfolding at
+at-past xs k h = List·getD-eq-default xs 0 h
+
+pub at-box : (n k : ℕ) → at (box n) k ≡ ones n k
+unfolding at box ones
+at-box n k =
+    elim (decLt k n) [
+      | yes h ↦ rw (lt-ltb k n h) (getD-replicate n k 1 0 h)
+      | no h ↦
+          let l : n ≤ k = omega arith in
+          rw (le-ltb k n l) (List·getD-eq-default (replicate n 1) 0 (rw length-replicate l))
+    ]
+
+-- two lists convolved, as sequences
+pub at-convolve : (p q : List ℕ) (k : ℕ) → at (convolve p q) k ≡ conv (at p) (at q) k
+unfolding convolve conv at
+at-convolve p q k =
+    elim (decLt k (length p + length q - 1)) [
+      | yes h ↦ getD-tab (length p + length q - 1) (λ k. sum (suc k) (λ a. getD p a 0 * getD q (k - a) 0)) k 0 h
+      | no h ↦
+          getD-tab-past (length p + length q - 1) (λ k. sum (suc k) (λ a. getD p a 0 * getD q (k - a) 0)) k 0 (omega arith)
+          ∙ sym (sum-agree (λ a. getD p a 0 * getD q (k - a) 0) (λ a. 0) (suc k)
+          (λ a l.
+          elim (decLe (length p) a) [
+            | yes g ↦ ap (λ x. x * getD q (k - a) 0) (List·getD-eq-default p 0 g) ∙ zero-mul (getD q (k - a) 0)
+            | no g ↦
+                let m : length q ≤ k - a = omega arith in
+                ap (λ x. getD p a 0 * x) (List·getD-eq-default q 0 m) ∙ mul-zero (getD p a 0)
+          ])
+          ∙ sum-zero (suc k))
+    ]
+
+-- one box more is one box filter more
+pub at-kernel : (n : ℕ) (ns : List ℕ) (k : ℕ) → at (kernel (n ∷ ns)) k ≡ boxed n (at (kernel ns)) k
+unfolding kernel
+at-kernel n ns k =
+    at-convolve (box n) (kernel ns) k
+    ∙ conv-agree (at (box n)) (ones n) (at (kernel ns)) (at (kernel ns)) k (λ a h. at-box n a) (λ a h. refl)
+    ∙ sym (boxed-conv n (at (kernel ns)) k)
+
+-- a factor of a product that is not 0
+factor-pos : (a b : ℕ) → 0 < a * b → 0 < b
+factor-pos a zero h = omega (arith, mul-zero a)
+factor-pos a (suc b) h = omega arith
+
+-- the single coefficient 1
+impulse-sum : (m : ℕ) → sum m (at (kernel [])) ≤ 1
+unfolding kernel at sum
+impulse-sum zero = omega arith
+impulse-sum (suc m) = omega (arith, sum-first (at (kernel [])) m, sum-zero m)
+
+-- coefficients add up to the product of the widths at most
+pub kernel-sum : (ns : List ℕ) (m : ℕ) → sum m (at (kernel ns)) ≤ product ns
+unfolding product
+kernel-sum [] m = impulse-sum m
+kernel-sum (n ∷ ns) m =
+    le-trans (le-of-eq (sum-agree (at (kernel (n ∷ ns))) (boxed n (at (kernel ns))) m (λ k h. at-kernel n ns k)))
+    (le-trans (boxed-sum (at (kernel ns)) n m) (mul-le-mul-left n (kernel-sum ns m)))
+
+pub length-box : (n : ℕ) → length (box n) ≡ n
+unfolding box
+length-box n = length-replicate n 1
+
+pub length-convolve : (p q : List ℕ) → length (convolve p q) ≡ length p + length q - 1
+unfolding convolve
+length-convolve p q = length-tab _ _
+
+-- as many coefficients as the reach and one
+pub length-kernel : (ns : List ℕ) → 0 < product ns → length (kernel ns) ≡ order ns + 1
+unfolding kernel order total product
+length-kernel [] h = refl
+length-kernel (zero ∷ ns) h = omega (arith, zero-mul (product ns))
+length-kernel (suc n ∷ ns) h =
+    omega (arith, length-convolve (box (suc n)) (kernel ns), length-box (suc n), length-kernel ns (factor-pos (suc n) (product ns) h))

@@ -1,0 +1,6 @@
+pub mod Sums
+pub mod Lists
+pub mod Slices
+pub mod Sequences
+pub mod Convolution
+pub mod Kernels

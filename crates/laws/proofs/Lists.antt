@@ -1,0 +1,90 @@
+-- Lists made by a rule, and totals and products over the front of a list.
+-- Assumes nothing.
+use mathlib.Core.Path.{_≡_, refl, sym, ap, ap₂, _∙_}
+use mathlib.Core.List.{List, [], _∷_, _++_}
+use Prim.Native.Nat.{ℕ, zero, suc, _+_, _*_, _≤_, _<_, suc-le-suc}
+use native.Mathlib.Nat.{zero-add, le-of-suc-le-suc, not-suc-le-zero, zero-lt-suc, mul-zero, mul-one, mul-pos, mul-assoc, zero-mul}
+use native.Mathlib.Numerals.{add-one}
+use native.Mathlib.Omega.{arith}
+use lib.Dec.{eqb, eqb·suc-zero}
+use lib.ListN.{length, getD, take, List·getD-eq-default}
+use lib.Seq.{ext-getD, getD-take, length-take-le, take-suc}
+use borrow.Author.Tests.{ne-eqb}
+use Rattle.spec.specs.Words.{tab, part, total, product, somewhere}
+
+module _ {A : Type 0} where
+  pub length-tab : (n : ℕ) (f : ℕ → A) → length (tab n f) ≡ n
+  unfolding tab
+  length-tab zero f = refl
+  length-tab (suc n) f = ap suc (length-tab n (λ k. f (suc k)))
+
+  -- what stands in a list made by a rule, and past its end
+  pub getD-tab : (n : ℕ) (f : ℕ → A) (k : ℕ) (d : A) → k < n → getD (tab n f) k d ≡ f k
+  unfolding tab
+  getD-tab zero f k d h = absurd (not-suc-le-zero h)
+  getD-tab (suc n) f zero d h = refl
+  getD-tab (suc n) f (suc k) d h = getD-tab n (λ j. f (suc j)) k d (le-of-suc-le-suc h)
+
+  pub getD-tab-past : (n : ℕ) (f : ℕ → A) (k : ℕ) (d : A) → n ≤ k → getD (tab n f) k d ≡ d
+  getD-tab-past n f k d h = List·getD-eq-default (tab n f) d (rw length-tab h)
+
+  -- two rules that agree make the same list
+  pub tab-agree : (n : ℕ) (f g : ℕ → A) → ((k : ℕ) → k < n → f k ≡ g k) → tab n f ≡ tab n g
+  unfolding tab
+  tab-agree zero f g e = refl
+  tab-agree (suc n) f g e = ap₂ _∷_ (e 0 (zero-lt-suc n)) (tab-agree n (λ k. f (suc k)) (λ k. g (suc k)) (λ k h. e (suc k) (suc-le-suc h)))
+
+  -- a list is made by the rule that reads it
+  pub tab-getD : (d : A) (xs : List A) → tab (length xs) (λ k. getD xs k d) ≡ xs
+  unfolding tab
+  tab-getD d [] = refl
+  tab-getD d (x ∷ xs) = ap (λ l. x ∷ l) (tab-getD d xs)
+
+-- the first entries of a list
+pub part-take : (n : ℕ) (xs : List ℕ) → n ≤ length xs → part 0 n xs ≡ take n xs
+unfolding part
+part-take n xs h =
+    ext-getD 0 (tab n (λ k. getD xs (0 + k) 0)) (take n xs)
+    (length-tab n (λ k. getD xs (0 + k) 0) ∙ sym (length-take-le n xs h))
+    (λ k l.
+    let m : k < n = rw length-tab at l in
+    getD-tab n (λ i. getD xs (0 + i) 0) k 0 m ∙ ap (λ i. getD xs i 0) (zero-add k) ∙ sym (getD-take n xs k 0 m))
+
+pub length-part : (from n : ℕ) (xs : List ℕ) → length (part from n xs) ≡ n
+unfolding part
+length-part from n xs = length-tab n (λ k. getD xs (from + k) 0)
+
+module _ (f : ℕ → ℕ) where
+  pub total-append : (xs ys : List ℕ) → total f (xs ++ ys) ≡ total f xs + total f ys
+  unfolding total
+  total-append [] ys = sym (zero-add (total f ys))
+  total-append (x ∷ xs) ys = omega (arith, total-append xs ys)
+
+  -- one entry more
+  pub total-more : (xs : List ℕ) (i : ℕ) → i < length xs → total f (take (i + 1) xs) ≡ total f (take i xs) + f (getD xs i 0)
+  unfolding total
+  total-more xs i h = rw (add-one i, take-suc xs i 0 h) (omega (arith, total-append (take i xs) (getD xs i 0 ∷ [])))
+
+pub product-append : (xs ys : List ℕ) → product (xs ++ ys) ≡ product xs * product ys
+unfolding product
+product-append [] ys = omega arith
+product-append (x ∷ xs) ys = ap (λ p. x * p) (product-append xs ys) ∙ sym (mul-assoc x (product xs) (product ys))
+
+pub product-more : (xs : List ℕ) (i : ℕ) → i < length xs → product (take (i + 1) xs) ≡ product (take i xs) * getD xs i 0
+unfolding product
+product-more xs i h =
+    rw (add-one i, take-suc xs i 0 h)
+    (product-append (take i xs) (getD xs i 0 ∷ []) ∙ ap (λ p. product (take i xs) * p) (mul-one (getD xs i 0)))
+
+-- a product is 0 exactly where a factor is
+times-zero : (n p : ℕ) → eqb (suc n * p) 0 ≡ eqb p 0
+times-zero n zero = ap (λ m. eqb m 0) (mul-zero (suc n))
+times-zero n (suc p) =
+    let h : 0 < suc n * suc p = mul-pos (zero-lt-suc n) (zero-lt-suc p) in
+    ne-eqb (suc n * suc p) 0 (λ e. omega arith) ∙ sym (eqb·suc-zero p)
+
+pub product-zero : (xs : List ℕ) → somewhere (λ n. eqb n 0) xs ≡ eqb (product xs) 0
+unfolding product somewhere
+product-zero [] = refl
+product-zero (zero ∷ xs) = sym (ap (λ p. eqb p 0) (zero-mul (product xs)))
+product-zero (suc n ∷ xs) = rw (eqb·suc-zero n) (product-zero xs ∙ sym (times-zero n (product xs)))

@@ -1,0 +1,122 @@
+-- Loops that rewrite a slice in place, entry by entry, from the left or from the right: at each turn the slice is the front of
+-- one list and the back of another, of the same length.
+-- Assumes nothing.
+use mathlib.Core.Path.{_≡_, refl, sym, ap, ap₂, _∙_}
+use mathlib.Core.List.{List, [], _∷_, _++_, append-nil}
+use Prim.Native.Nat.{ℕ, suc, _+_, _-_, _≤_, _<_}
+use native.Mathlib.Nat.{le-refl, add-sub-of-le}
+use native.Mathlib.Decide.{decLt}
+use native.Mathlib.Numerals.{add-one}
+use native.Mathlib.Omega.{arith}
+use lib.ListN.{length, getD, take, drop, set, length-append, length-drop, drop-of-length-le, List·getD-append}
+use lib.Seq.{length-take-le, take-all, take-suc, drop-cons, append-snoc, set-at, getD-take, getD-drop, getD-append-add, ext-getD}
+
+module _ {A : Type 0} where
+  -- the first i entries of one list, then the rest of another
+  unfoldable pub mix : ℕ → List A → List A → List A
+  mix i front back = take i front ++ drop i back
+
+  -- the whole front
+  mix-whole : (i : ℕ) (front back : List A) → length front ≡ length back → length back ≤ i → mix i front back ≡ front
+  unfolding mix
+  mix-whole i front back e h =
+      ap₂ _++_ (take-all i front (omega arith)) (drop-of-length-le back h) ∙ append-nil front
+
+  -- the entry at i, of the back and of the front
+  module _ (d : A) (i : ℕ) (front back : List A) (e : length front ≡ length back) (h : i < length back) where
+    mix-here : mix i front back ≡ take i front ++ getD back i d ∷ drop (suc i) back
+    unfolding mix
+    mix-here = ap (λ l. take i front ++ l) (drop-cons back i d h)
+
+    mix-next : mix (i + 1) front back ≡ take i front ++ getD front i d ∷ drop (suc i) back
+    unfolding mix
+    mix-next =
+        let g : i < length front = omega arith in
+        rw (add-one i, take-suc front i d g) (append-snoc (take i front) (getD front i d) (drop (suc i) back))
+
+    set-mixed : (x y : A) → set (take i front ++ x ∷ drop (suc i) back) i y ≡ take i front ++ y ∷ drop (suc i) back
+    set-mixed x y = set-at (take i front) x (drop (suc i) back) y i (length-take-le i front (omega arith))
+
+  -- l is the front of one list up to i and the back of another from i on
+  pub record Mixed (i : ℕ) (front back l : List A) : Type 0 where
+    pub size : length front ≡ length back
+    pub inside : i ≤ length back
+    pub is : l ≡ mix i front back
+
+  pub length-mixed : {i : ℕ} {front back l : List A} → Mixed i front back l → length l ≡ length back
+  unfolding mix
+  length-mixed {i} {front} {back} m =
+      ap length (m .is)
+      ∙ length-append (take i front) (drop i back)
+      ∙ ap₂ _+_ (length-take-le i front (omega (arith, m .size, m .inside))) (length-drop i back)
+      ∙ add-sub-of-le (m .inside)
+
+  -- nothing is written yet, from the left and from the right
+  pub mixed-none : (front back : List A) → length front ≡ length back → Mixed 0 front back back
+  unfolding mix
+  mixed-none front back e = record { size = e; inside = omega arith; is = refl }
+
+  pub mixed-whole : (front back : List A) → length front ≡ length back → Mixed (length back) front back front
+  mixed-whole front back e = record { size = e; inside = le-refl (length back); is = sym (mix-whole (length back) front back e (le-refl (length back))) }
+
+  -- what stands before i, and from i on
+  module _ (d : A) {i : ℕ} {front back l : List A} (m : Mixed i front back l) where
+    taken : length (take i front) ≡ i
+    taken = length-take-le i front (omega (arith, m .size, m .inside))
+
+    pub mixed-front : (j : ℕ) → j < i → getD l j d ≡ getD front j d
+    unfolding mix
+    mixed-front j h =
+        ap (λ x. getD x j d) (m .is)
+        ∙ List·getD-append (take i front) (drop i back) d j (omega (arith, taken))
+        ∙ getD-take i front j d h
+
+    pub mixed-back : (j : ℕ) → i ≤ j → getD l j d ≡ getD back j d
+    unfolding mix
+    mixed-back j h =
+        let e : j ≡ length (take i front) + (j - i) = omega (arith, taken) in
+        let g : i + (j - i) ≡ j = omega arith in
+        ap₂ (λ x k. getD x k d) (m .is) e
+        ∙ getD-append-add (take i front) (drop i back) (j - i) d
+        ∙ getD-drop i back (j - i) d
+        ∙ ap (λ k. getD back k d) g
+
+  -- one entry more, from the left and from the right
+  pub mixed-up : (d : A) {i : ℕ} {front back l : List A} → Mixed i front back l → i < length back
+      → Mixed (i + 1) front back (set l i (getD front i d))
+  mixed-up d {i} {front} {back} m h =
+      record {
+        size = m .size;
+        inside = omega arith;
+        is =
+            ap (λ l. set l i (getD front i d)) (m .is ∙ mix-here d i front back (m .size) h)
+            ∙ set-mixed d i front back (m .size) h (getD back i d) (getD front i d)
+            ∙ sym (mix-next d i front back (m .size) h);
+      }
+
+  pub mixed-down : (d : A) (i : ℕ) {front back l : List A} → Mixed (i + 1) front back l → Mixed i front back (set l i (getD back i d))
+  mixed-down d i {front} {back} m =
+      let h : i < length back = omega (arith, m .inside) in
+      record {
+        size = m .size;
+        inside = omega arith;
+        is =
+            ap (λ l. set l i (getD back i d)) (m .is ∙ mix-next d i front back (m .size) h)
+            ∙ set-mixed d i front back (m .size) h (getD front i d) (getD back i d)
+            ∙ sym (mix-here d i front back (m .size) h);
+      }
+
+  -- all is written from the left
+  pub mixed-all : {i : ℕ} {front back l : List A} → Mixed i front back l → length back ≤ i → l ≡ front
+  mixed-all {i} {front} {back} m h = m .is ∙ mix-whole i front back (m .size) h
+
+  -- what is left to be written from the right is as it should be
+  pub mixed-rest : (d : A) {i : ℕ} {front back l : List A} → Mixed i front back l
+      → ((k : ℕ) → k < i → getD front k d ≡ getD back k d) → l ≡ back
+  mixed-rest d {i} {front} {back} {l} m e =
+      ext-getD d l back (length-mixed m)
+      (λ k h.
+      elim (decLt k i) [
+        | yes g ↦ mixed-front d m k g ∙ e k g
+        | no g ↦ mixed-back d m k (omega arith)
+      ])
