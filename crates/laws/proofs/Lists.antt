@@ -1,15 +1,16 @@
 -- Lists made by a rule, and totals and products over the front of a list.
 -- Assumes nothing.
 use mathlib.Core.Path.{_≡_, refl, sym, ap, ap₂, _∙_}
+use mathlib.Core.Bool.{_||_}
 use mathlib.Core.List.{List, [], _∷_, _++_}
 use Prim.Native.Nat.{ℕ, zero, suc, _+_, _*_, _≤_, _<_, suc-le-suc}
-use native.Mathlib.Nat.{zero-add, le-of-suc-le-suc, not-suc-le-zero, zero-lt-suc, mul-zero, mul-one, mul-pos, mul-assoc, zero-mul}
+use native.Mathlib.Nat.{zero-add, le-of-suc-le-suc, not-suc-le-zero, zero-lt-suc, mul-one, mul-assoc}
 use native.Mathlib.Numerals.{add-one}
 use native.Mathlib.Omega.{arith}
-use lib.Dec.{eqb, eqb·suc-zero}
+use lib.Dec.{eqb}
 use lib.ListN.{length, getD, take, List·getD-eq-default}
 use lib.Seq.{ext-getD, getD-take, length-take-le, take-suc}
-use borrow.Author.Tests.{ne-eqb}
+use Rattle.laws.proofs.Numbers.{zero-factor}
 use Rattle.spec.specs.Words.{tab, part, total, product, somewhere}
 
 module _ {A : Type 0} where
@@ -76,15 +77,8 @@ product-more xs i h =
     rw (add-one i, take-suc xs i 0 h)
     (product-append (take i xs) (getD xs i 0 ∷ []) ∙ ap (λ p. product (take i xs) * p) (mul-one (getD xs i 0)))
 
--- a product is 0 exactly where a factor is
-times-zero : (n p : ℕ) → eqb (suc n * p) 0 ≡ eqb p 0
-times-zero n zero = ap (λ m. eqb m 0) (mul-zero (suc n))
-times-zero n (suc p) =
-    let h : 0 < suc n * suc p = mul-pos (zero-lt-suc n) (zero-lt-suc p) in
-    ne-eqb (suc n * suc p) 0 (λ e. omega arith) ∙ sym (eqb·suc-zero p)
-
+-- a product is 0 exactly where an entry is
 pub product-zero : (xs : List ℕ) → somewhere (λ n. eqb n 0) xs ≡ eqb (product xs) 0
 unfolding product somewhere
 product-zero [] = refl
-product-zero (zero ∷ xs) = sym (ap (λ p. eqb p 0) (zero-mul (product xs)))
-product-zero (suc n ∷ xs) = rw (eqb·suc-zero n) (product-zero xs ∙ sym (times-zero n (product xs)))
+product-zero (x ∷ xs) = ap (λ b. eqb x 0 || b) (product-zero xs) ∙ zero-factor x (product xs)
