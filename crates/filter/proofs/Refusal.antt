@@ -2,7 +2,7 @@
 -- Assumes nothing.
 use mathlib.Core.Path.{_≡_, refl, sym, ap, ap₂, _∙_}
 use mathlib.Core.Bool.{Bool, true, false, cond, _||_}
-use mathlib.Core.List.{List, [], _∷_}
+use mathlib.Core.List.{List, [], _∷_, _++_}
 use Prim.Native.Nat.{ℕ, zero, suc, _+_, _*_, _^_, _≤_, _<_, min}
 use native.Mathlib.Nat.{one-mul}
 use native.Mathlib.Decide.{decLe}
@@ -13,8 +13,9 @@ use borrow.Author.Tests.{lt-ltb, le-ltb, eq-eqb, ne-eqb, ltb-false}
 use Rattle.spec.specs.declared.Filter.{Filter}
 use Rattle.spec.specs.Words.{product}
 use Rattle.spec.specs.Recipe.{Recipe, recipe, widths, order, gain}
-use Rattle.spec.specs.Refusals.{tooLong, zeroWidth, tooFar, tooHeavy, check, first, either, recipeChecks}
+use Rattle.spec.specs.Refusals.{tooLong, zeroWidth, tooFar, tooHeavy, Check, check, first, either, recipeChecks}
 use Rattle.laws.proofs.Lists.{length-part, product-zero}
+use Rattle.laws.proofs.Refusals.{Accepted, is-accepted, first-front, first-then, recipe-numbered}
 use Rattle.laws.proofs.Numbers.{zero-factor, cap-times}
 use Rattle.filter.specs.declared.checks.Measures.{Measures}
 use Rattle.filter.specs.Measured.{Measured, refusedBy, verdictOf}
@@ -56,9 +57,10 @@ zero-capped g (suc w) e = ne-eqb (suc w) 0 (λ q. omega arith) ∙ sym (ne-eqb g
 
 heavy-capped : (g w : ℕ) → g ≡ min w (2 ^ 44 + 1) → ltb (2 ^ 44) w ≡ ltb (2 ^ 44) g
 heavy-capped g w e =
-    elim (decLe w (2 ^ 44))
-    [ yes h ↦ le-ltb (2 ^ 44) w h ∙ sym (le-ltb (2 ^ 44) g (omega arith))
-    | no h ↦ lt-ltb (2 ^ 44) w (omega arith) ∙ sym (lt-ltb (2 ^ 44) g (omega arith)) ]
+    elim (decLe w (2 ^ 44)) [
+      | yes h ↦ le-ltb (2 ^ 44) w h ∙ sym (le-ltb (2 ^ 44) g (omega arith))
+      | no h ↦ lt-ltb (2 ^ 44) w (omega arith) ∙ sym (lt-ltb (2 ^ 44) g (omega arith))
+    ]
 
 -- 2 to 4 go by the reaches and the weight so held
 pub short : (r : Recipe) (g : ℕ) → tooLong r ≡ false → g ≡ min (gain r) (2 ^ 44 + 1)
@@ -96,8 +98,36 @@ pub accepted-so : (r : Recipe) (m : Measures) → m .refusal ≡ 0 → m .gain �
 unfolding either
 accepted-so r m z g a b s v =
     let e : first (recipeChecks r) ≡ 0 = short r (m .gain) s g ∙ v in
-    record
-    { number = z ∙ sym e
-    ; weight = rw e (light (gain r) (order (r .rows)) (order (r .columns)) (m .gain) g v)
-    ; rowReach = rw e a
-    ; columnReach = rw e b }
+    record {
+      number = z ∙ sym e;
+      weight = rw e (light (gain r) (order (r .rows)) (order (r .columns)) (m .gain) g v);
+      rowReach = rw e a;
+      columnReach = rw e b;
+    }
+
+-- what a caller knows of a recipe that measures as accepted
+pub record Known (r : Recipe) (m : Measures) : Type 0 where
+  pub none : first (recipeChecks r) ≡ 0
+  pub weight : m .gain ≡ gain r
+  pub rowReach : m .«row_order» ≡ order (r .rows)
+  pub columnReach : m .«column_order» ≡ order (r .columns)
+  pub accepted : Accepted r
+
+pub known : {r : Recipe} {m : Measures} → Measured r m → m .refusal ≡ 0 → Known r m
+unfolding either
+known {r} s e =
+    let z : first (recipeChecks r) ≡ 0 = sym (s .number) ∙ e in
+    record {
+      none = z;
+      weight = rw z at (s .weight);
+      rowReach = rw z at (s .rowReach);
+      columnReach = rw z at (s .columnReach);
+      accepted = is-accepted r z;
+    }
+
+-- the checks of a call that begin with a recipe's
+pub measured-refused : {r : Recipe} {m : Measures} → Measured r m → (ds : List Check) → (m .refusal ≡ 0 → ⊥) → first (recipeChecks r ++ ds) ≡ m .refusal
+measured-refused {r} {m} s ds h = first-front (recipeChecks r) ds (m .refusal) (sym (s .number)) h
+
+pub measured-then : {r : Recipe} {m : Measures} → Measured r m → m .refusal ≡ 0 → (b : Bool) (n : ℕ) → first (recipeChecks r ++ check b n ∷ []) ≡ cond b n 0
+measured-then {r} s e b n = first-then (recipeChecks r) b n (recipe-numbered r) (sym (s .number) ∙ e)

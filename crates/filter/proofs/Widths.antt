@@ -1,25 +1,59 @@
 -- The widths that a cascade holds, and a weight multiplied up over them and held at a limit.
 -- Assumes nothing.
-use mathlib.Core.Path.{_≡_, sym, ap, _∙_}
+use mathlib.Core.Path.{_≡_, refl, sym, ap, ap₂, _∙_}
 use mathlib.Core.List.{List}
 use Prim.Native.Nat.{ℕ, _+_, _*_, _≤_, _<_, min}
-use native.Mathlib.Nat.{mul-assoc}
+use native.Mathlib.Nat.{mul-add, mul-one, mul-assoc}
 use native.Mathlib.Omega.{arith}
 use lib.ListN.{length, getD, take}
 use Rattle.spec.specs.declared.Cascade.{Cascade}
-use Rattle.spec.specs.Words.{product}
+use Rattle.spec.specs.Words.{total, product}
 use Rattle.spec.specs.Recipe.{widths}
-use Rattle.laws.proofs.Lists.{part-take, product-more}
+use Rattle.laws.proofs.Lists.{part-take, length-part, total-more, product-more}
 use Rattle.laws.proofs.Numbers.{cap-times}
 
 -- a cascade with a count of at most 48 holds the first entries of its array
-pub widths-taken : (c : Cascade) → c .count ≤ 48 → length (c .widths) ≡ 48 → widths c ≡ take (c .count) (c .widths)
+widths-taken : (c : Cascade) → c .count ≤ 48 → length (c .widths) ≡ 48 → widths c ≡ take (c .count) (c .widths)
 unfolding widths
 widths-taken c h e = part-take (c .count) (c .widths) (omega arith)
 
--- a loop that has gone through all of them
-pub widths-passed : (c : Cascade) (i : ℕ) → c .count ≤ 48 → length (c .widths) ≡ 48 → i ≡ c .count → take i (c .widths) ≡ widths c
-widths-passed c i h e p = ap (λ k. take k (c .widths)) p ∙ sym (widths-taken c h e)
+pub length-widths : (c : Cascade) → length (widths c) ≡ c .count
+unfolding widths
+length-widths c = length-part 0 (c .count) (c .widths)
+
+-- A loop over the widths of a cascade that adds up f, no term of which is above most, after i of them.
+pub record Summed (f : ℕ → ℕ) (most : ℕ) (c : Cascade) (count i acc : ℕ) : Type 0 where
+  pub counted : count ≡ c .count
+  pub size : length (c .widths) ≡ 48
+  pub inside : i ≤ count
+  pub is : acc ≡ total f (take i (c .widths))
+  pub small : acc ≤ most * i
+
+module _ (f : ℕ → ℕ) (most : ℕ) (c : Cascade) (count : ℕ) where
+  pub summed-none : count ≡ c .count → length (c .widths) ≡ 48 → Summed f most c count 0 0
+  unfolding total
+  summed-none e s = record { counted = e; size = s; inside = omega arith; is = refl; small = omega arith }
+
+  pub summed-more : (i acc v : ℕ) → Summed f most c count i acc → i < count → c .count ≤ 48 → v ≡ f (getD (c .widths) i 0) → v ≤ most
+      → Summed f most c count (i + 1) (acc + v)
+  summed-more i acc v s h k e l =
+      let m : i < length (c .widths) = omega (arith, s .counted, s .size) in
+      record {
+        counted = s .counted;
+        size = s .size;
+        inside = omega arith;
+        is = ap₂ _+_ (s .is) e ∙ sym (total-more f (c .widths) i m);
+        small = omega (arith, s .small, mul-add most i 1, mul-one most);
+      }
+
+  -- after all of them
+  pub passed : (i : ℕ) {acc : ℕ} → Summed f most c count i acc → count ≤ i → c .count ≤ 48 → take i (c .widths) ≡ widths c
+  passed i s h k =
+      let e : i ≡ c .count = omega (arith, s .counted, s .inside) in
+      ap (λ n. take n (c .widths)) e ∙ sym (widths-taken c k (s .size))
+
+  pub summed-all : (i acc : ℕ) → Summed f most c count i acc → count ≤ i → c .count ≤ 48 → acc ≡ total f (widths c)
+  summed-all i acc s h k = s .is ∙ ap (total f) (passed i s h k)
 
 -- one width more
 pub capped-more : (weight cap : ℕ) (ws : List ℕ) (i g r : ℕ) → i < length ws → g ≡ min (weight * product (take i ws)) cap

@@ -10,6 +10,7 @@ use spec::Filter;
 
 // The largest weight, and what stands for every weight above it.
 pub(crate) const HEAVIEST: u64 = 17_592_186_044_416;
+
 const TOO_HEAVY: u64 = 17_592_186_044_417;
 
 // A recipe's refusal, 0 where it is accepted; its weight and its reaches, all 0 on a refusal.

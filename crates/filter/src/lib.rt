@@ -1,9 +1,14 @@
-// Document 01's recipe: its checks 1 to 4, its weight and reaches, its coefficients, the sizes that a caller needs for buffers, and
-// the scale card.
+// Document 01's recipe: its checks 1 to 4, its weight and reaches, its coefficients, the sizes that a
+// caller needs for buffers, and the scale card.
 mod checks;
+mod sizes;
 
-pub use spec::Cascade;
-pub use spec::Filter;
+pub use checks::Measures;
 pub use checks::check;
 pub use checks::measure;
-pub use checks::Measures;
+pub use sizes::Cells;
+pub use sizes::FullSize;
+pub use sizes::full_size;
+pub use sizes::stream_cells;
+pub use spec::Cascade;
+pub use spec::Filter;

@@ -5,3 +5,4 @@ pub mod Slices
 pub mod Sequences
 pub mod Convolution
 pub mod Kernels
+pub mod Refusals

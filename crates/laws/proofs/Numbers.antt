@@ -13,15 +13,16 @@ use borrow.Author.Tests.{ne-eqb}
 pub cap-times : (a n c : ℕ) → min (min a c * n) c ≡ min (a * n) c
 cap-times a zero c = omega (arith, mul-zero (min a c), mul-zero a)
 cap-times a (suc n) c =
-    elim (decLe a c)
-    [ yes h ↦
-    let e : min a c ≡ a = omega arith in
-    ap (λ x. min (x * suc n) c) e
-    | no h ↦
-    let e : min a c ≡ c = omega arith in
-    let over : c ≤ c * suc n = le-mul-of-pos-right c (zero-lt-suc n) in
-    let most : a ≤ a * suc n = le-mul-of-pos-right a (zero-lt-suc n) in
-    omega (arith, ap (λ x. x * suc n) e) ]
+    elim (decLe a c) [
+      | yes h ↦
+          let e : min a c ≡ a = omega arith in
+          ap (λ x. min (x * suc n) c) e
+      | no h ↦
+          let e : min a c ≡ c = omega arith in
+          let over : c ≤ c * suc n = le-mul-of-pos-right c (zero-lt-suc n) in
+          let most : a ≤ a * suc n = le-mul-of-pos-right a (zero-lt-suc n) in
+          omega (arith, ap (λ x. x * suc n) e)
+    ]
 
 -- a product is 0 exactly where a factor is
 pub zero-factor : (a b : ℕ) → (eqb a 0 || eqb b 0) ≡ eqb (a * b) 0

@@ -28,6 +28,14 @@ fullWidth r w = w + order (r .rows)
 unfoldable pub fullHeight : Recipe → ℕ → ℕ
 fullHeight r h = h + order (r .columns)
 
+-- the two sides of a picture
+pub record Sides : Type 0 where
+  pub width : ℕ
+  pub height : ℕ
+
+unfoldable pub fullSides : Recipe → ℕ → ℕ → Sides
+fullSides r w h = record { width = fullWidth r w; height = fullHeight r h }
+
 -- Exact sum at grown column i, row j: the sum over a of 0 to rx and b of 0 to ry of R[a] times C[b] times pixel (i - a, j - b).
 unfoldable pub exact : Recipe → Picture → ℕ → ℕ → ℕ
 exact r p i j =

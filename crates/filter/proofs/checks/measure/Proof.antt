@@ -51,17 +51,20 @@ verdict-requires c κs = search needs
 
 -- what is known once the verdict is in: no list is too long, the weight as it is held, and the two reaches
 known : (c : tie.After-verdict) → let f = c .before .before .before .before .before .before .before .before .before .args .filter in
-    record { short : tooLong (recipe f) ≡ false
-    ; weight : c .before .survey2 .result .gain ≡ min (gain (recipe f)) (2 ^ 44 + 1)
-    ; verdict : c .verdict .result ≡ verdictOf (order (widths (f .rows))) (order (widths (f .columns))) (c .before .survey2 .result .gain) }
+    record {
+      short : tooLong (recipe f) ≡ false;
+      weight : c .before .survey2 .result .gain ≡ min (gain (recipe f)) (2 ^ 44 + 1);
+      verdict : c .verdict .result ≡ verdictOf (order (widths (f .rows))) (order (widths (f .columns))) (c .before .survey2 .result .gain);
+    }
 known c =
     let f = c .before .before .before .before .before .before .before .before .before .args .filter in
     let across = c .before .before .survey .ensures in
     let both = c .before .survey2 .ensures in
-    record
-    { short = counts-short f (search needs) (search needs)
-    ; weight = gain-capped f (c .before .before .survey .result .gain) (c .before .survey2 .result .gain) (across .heavy) (both .heavy)
-    ; verdict = c .verdict .ensures ∙ ap₂ (λ a b. verdictOf a b (c .before .survey2 .result .gain)) (across .reach) (both .reach) }
+    record {
+      short = counts-short f (search needs) (search needs);
+      weight = gain-capped f (c .before .before .survey .result .gain) (c .before .survey2 .result .gain) (across .heavy) (both .heavy);
+      verdict = c .verdict .ensures ∙ ap₂ (λ a b. verdictOf a b (c .before .survey2 .result .gain)) (across .reach) (both .reach);
+    }
 
 -- src/checks.rt:110:9
 refused-requires-3 : tie.Need-refused-requires-3

@@ -3,10 +3,9 @@ use mathlib.Core.List.{List, [], _∷_, _++_}
 use Prim.Native.Nat.{ℕ, suc, _+_, _-_, _*_, _/_, _%_, _^_, _≤_, _<_, min}
 use native.Mathlib.Omega.{arith}
 use borrow.Author.Needs.{needs}
-use Rattle.spec.specs.Words.{total, product}
+use Rattle.spec.specs.Words.{product}
 use Rattle.spec.specs.Recipe.{order}
-use Rattle.laws.proofs.Lists.{total-more}
-use Rattle.filter.proofs.Widths.{widths-passed, capped-more}
+use Rattle.filter.proofs.Widths.{Summed, summed-none, summed-more, summed-all, passed, capped-more}
 use lib.ListN.{length, getD, take, drop, set, length-set}
 use Rattle.filter.proofs.checks.survey.Statement.{statement}
 use Rattle.filter.proofs.checks.survey.Tie as tie
@@ -17,9 +16,7 @@ use Rattle.filter.proofs.checks.times.Reads as times-reads
 
 abbrev Inv-loop : tie.InvT-loop
 Inv-loop gain list count found₀ i₀ found i =
-    (count ≡ list .count) × (length (list .widths) ≡ 48) × (i ≤ count)
-    × (found .order ≡ total (λ n. n - 1) (take i (list .widths)))
-    × (found .order ≤ 255 * i)
+    Summed (λ n. n - 1) 254 list count i (found .order)
     × (found .gain ≡ min (gain * product (take i (list .widths))) (2 ^ 44 + 1))
 
 abbrev μ-loop : tie.MeasureT-loop
@@ -31,8 +28,8 @@ cast-count c = search needs
 
 -- src/checks.rt:56:5
 loop-holds : tie.Need-loop-holds Inv-loop μ-loop
-unfolding total product
-loop-holds c = search needs
+unfolding product
+loop-holds c = (summed-none (λ n. n - 1) 254 (c .args .t1) _ refl (search needs), search needs)
 
 -- src/checks.rt:57:17
 element-copy-out-n : tie.Need-element-copy-out-n Inv-loop μ-loop
@@ -61,25 +58,30 @@ loop-less c = search needs
 -- src/checks.rt:56:5
 loop-again : tie.Need-loop-again Inv-loop μ-loop
 loop-again c =
-    let before = c .before .before .before .before .before in
-    let ws = before .before .args .t1 .widths in
-    let i = before .loop .i in
-    (search needs, search needs, search needs
-    , omega (arith, total-more (λ n. n - 1) ws i (search needs))
-    , omega arith
-    , capped-more (before .before .args .gain) (2 ^ 44 + 1) ws i (before .loop .found .gain) (c .times .result) (search needs)
-    (before .loop .inv .5) (c .times .ensures))
+    let start = c .before .before .before .before .before .before in
+    let now = c .before .before .before .before .before .loop in
+    let s = now .inv .0 in
+    let order = c .before .before .box-order in (
+      summed-more (λ n. n - 1) 254 (start .args .t1) _ (now .i) (now .found .order) (order .result) s (search needs) (start .pre .0)
+          (order .ensures .0) (order .ensures .1),
+      capped-more (start .args .gain) (2 ^ 44 + 1) (start .args .t1 .widths) (now .i) (now .found .gain) (c .times .result)
+          (omega (arith, s .counted, s .size)) (now .inv .1) (c .times .ensures),
+    )
 
 -- src/checks.rt:49:1
 returns : tie.Need-returns Inv-loop μ-loop
 unfolding order
 returns c =
-    let list = c .before .before .args .t1 in
-    let inv = c .before .loop .inv in
-    let all = widths-passed list (c .before .loop .i) (c .before .before .pre .0) (inv .1) (search needs) in
-    record
-    { reach = inv .3 ∙ ap (total (λ n. n - 1)) all
-    ; heavy = inv .5 ∙ ap (λ ws. min (c .before .before .args .gain * product ws) (2 ^ 44 + 1)) all }
+    let start = c .before .before in
+    let now = c .before .loop in
+    let list = start .args .t1 in
+    record {
+      reach = summed-all (λ n. n - 1) 254 list _ (now .i) (now .found .order) (now .inv .0) (c .loop-test .left) (start .pre .0);
+      heavy =
+          now .inv .1
+          ∙ ap (λ ws. min (start .args .gain * product ws) (2 ^ 44 + 1))
+          (passed (λ n. n - 1) 254 list _ (now .i) (now .inv .0) (c .loop-test .left) (start .pre .0));
+    }
 
 pub survey-spec : {M : Type 1} → statement M
 survey-spec =

@@ -1,0 +1,115 @@
+-- The first condition that holds, in a list of conditions and in a part of it, and what is known of a recipe that is accepted.
+-- Assumes nothing.
+use mathlib.Core.Path.{_≡_, refl, sym, ap₂, _∙_}
+use mathlib.Core.Bool.{Bool, true, false, cond, _||_, true≢false}
+use mathlib.Core.List.{List, [], _∷_, _++_}
+use Prim.Native.Nat.{ℕ, zero, suc, _*_, _^_, _≤_, _<_}
+use native.Mathlib.Nat.{pos-of-ne-zero}
+use native.Mathlib.Omega.{arith}
+use lib.Dec.{eqb, ltb}
+use lib.ListN.{length}
+use borrow.Author.Tests.{ltb-false, eqb-false}
+use Rattle.spec.specs.Words.{product}
+use Rattle.spec.specs.Recipe.{Recipe, order, gain}
+use Rattle.spec.specs.Refusals.{Check, check, first, either, accepted, refused, answer, lent, badSide, tooLong, zeroWidth, tooFar, tooHeavy, recipeChecks}
+use Rattle.laws.proofs.Lists.{product-zero}
+use Rattle.laws.proofs.Numbers.{zero-factor}
+
+-- every condition of a list has a number that is not 0
+abbrev pub Numbered : List Check → Type 0
+Numbered [] = Unit {0}
+Numbered (c ∷ cs) = (0 < c .number) × Numbered cs
+
+-- a refusal by the front of a list is one by the whole; where the front does not refuse, the rest decides
+pub first-front : (cs ds : List Check) (n : ℕ) → first cs ≡ n → (n ≡ 0 → ⊥) → first (cs ++ ds) ≡ n
+unfolding first
+first-front [] ds n e h = absurd (h (sym e))
+first-front (c ∷ cs) ds n e h = go (c .holds) e (λ p. first-front cs ds n p h)
+  where
+    go : (b : Bool) → cond b (c .number) (first cs) ≡ n → (first cs ≡ n → first (cs ++ ds) ≡ n) → cond b (c .number) (first (cs ++ ds)) ≡ n
+    go true p next = p
+    go false p next = next p
+
+pub first-rest : (cs ds : List Check) → Numbered cs → first cs ≡ 0 → first (cs ++ ds) ≡ first ds
+unfolding first
+first-rest [] ds k e = refl
+first-rest (c ∷ cs) ds k e = go (c .holds) e (first-rest cs ds (k .1))
+  where
+    go : (b : Bool) → cond b (c .number) (first cs) ≡ 0 → (first cs ≡ 0 → first (cs ++ ds) ≡ first ds)
+        → cond b (c .number) (first (cs ++ ds)) ≡ first ds
+    go true p next = absurd (omega (arith, k .0))
+    go false p next = next p
+
+-- the answer and what a lent slice contains, on a refusal and on acceptance
+pub answer-refused : {A : Type 0} (cs : List Check) (a : A) (n : ℕ) → first cs ≡ n → (n ≡ 0 → ⊥) → answer cs a ≡ refused n
+unfolding answer either
+answer-refused cs a zero e h = absurd (h refl)
+answer-refused cs a (suc n) e h = rw e refl
+
+pub answer-accepted : {A : Type 0} (cs : List Check) (a : A) → first cs ≡ 0 → answer cs a ≡ accepted a
+unfolding answer either
+answer-accepted cs a e = rw e refl
+
+pub lent-refused : (cs : List Check) (new old : List ℕ) (n : ℕ) → first cs ≡ n → (n ≡ 0 → ⊥) → lent cs new old ≡ old
+unfolding lent either
+lent-refused cs new old zero e h = absurd (h refl)
+lent-refused cs new old (suc n) e h = rw e refl
+
+pub lent-accepted : (cs : List Check) (new old : List ℕ) → first cs ≡ 0 → lent cs new old ≡ new
+unfolding lent either
+lent-accepted cs new old e = rw e refl
+
+-- none of a list of conditions holds
+pub first-none : (b : Bool) (n : ℕ) (cs : List Check) → first (check b (suc n) ∷ cs) ≡ 0 → (b ≡ false) × (first cs ≡ 0)
+unfolding first check
+first-none true n cs e = absurd (omega arith)
+first-none false n cs e = (refl, e)
+
+pub neither : (a b : Bool) → (a || b) ≡ false → (a ≡ false) × (b ≡ false)
+neither true b e = absurd (true≢false e)
+neither false b e = (refl, e)
+
+-- a recipe to which none of 1 to 4 applies
+pub record Accepted (r : Recipe) : Type 0 where
+  pub rowsShort : length (r .rows) ≤ 48
+  pub columnsShort : length (r .columns) ≤ 48
+  pub notZero : 0 < gain r
+  pub rowReach : order (r .rows) ≤ 255
+  pub columnReach : order (r .columns) ≤ 255
+  pub light : gain r ≤ 2 ^ 44
+
+pub is-accepted : (r : Recipe) → first (recipeChecks r) ≡ 0 → Accepted r
+unfolding recipeChecks tooLong zeroWidth tooFar tooHeavy gain
+is-accepted r e =
+    let one = first-none (tooLong r) 0 _ e in
+    let two = first-none (zeroWidth r) 1 _ (one .1) in
+    let three = first-none (tooFar r) 2 _ (two .1) in
+    let four = first-none (tooHeavy r) 3 _ (three .1) in
+    let lengths = neither (ltb 48 (length (r .rows))) (ltb 48 (length (r .columns))) (one .0) in
+    let reaches = neither (ltb 255 (order (r .rows))) (ltb 255 (order (r .columns))) (three .0) in
+    let zeros : eqb (product (r .rows) * product (r .columns)) 0 ≡ false =
+    sym (ap₂ _||_ (product-zero (r .rows)) (product-zero (r .columns)) ∙ zero-factor (product (r .rows)) (product (r .columns))) ∙ two .0 in
+    record {
+      rowsShort = ltb-false 48 (length (r .rows)) (lengths .0);
+      columnsShort = ltb-false 48 (length (r .columns)) (lengths .1);
+      notZero = pos-of-ne-zero (eqb-false (product (r .rows) * product (r .columns)) 0 zeros);
+      rowReach = ltb-false 255 (order (r .rows)) (reaches .0);
+      columnReach = ltb-false 255 (order (r .columns)) (reaches .1);
+      light = ltb-false (2 ^ 44) (gain r) (four .0);
+    }
+
+pub recipe-numbered : (r : Recipe) → Numbered (recipeChecks r)
+unfolding recipeChecks check
+recipe-numbered r = (omega arith, (omega arith, (omega arith, (omega arith, tt))))
+
+-- one condition more, after a list of which none holds
+pub first-then : (cs : List Check) (b : Bool) (n : ℕ) → Numbered cs → first cs ≡ 0 → first (cs ++ check b n ∷ []) ≡ cond b n 0
+unfolding first check
+first-then cs b n k e = first-rest cs (check b n ∷ []) k e
+
+-- a side that is not refused
+pub good-side : (n : ℕ) → badSide n ≡ false → (0 < n) × (n ≤ 1024)
+unfolding badSide
+good-side n e =
+    let h = neither (eqb n 0) (ltb 1024 n) e in
+    (pos-of-ne-zero (eqb-false n 0 (h .0)), ltb-false 1024 n (h .1))
