@@ -1,11 +1,12 @@
 -- The widths that a cascade holds, and a weight multiplied up over them and held at a limit.
 -- Assumes nothing.
 use mathlib.Core.Path.{_≡_, refl, sym, ap, ap₂, _∙_}
-use mathlib.Core.List.{List}
-use Prim.Native.Nat.{ℕ, _+_, _*_, _≤_, _<_, min}
+use mathlib.Core.List.{List, _∷_}
+use Prim.Native.Nat.{ℕ, suc, _+_, _*_, _≤_, _<_, min}
 use native.Mathlib.Nat.{mul-add, mul-one, mul-assoc}
 use native.Mathlib.Omega.{arith}
-use lib.ListN.{length, getD, take}
+use lib.ListN.{length, getD, take, drop}
+use lib.Seq.{drop-cons, getD-take}
 use Rattle.spec.specs.declared.Cascade.{Cascade}
 use Rattle.spec.specs.Words.{total, product}
 use Rattle.spec.specs.Recipe.{widths}
@@ -20,6 +21,13 @@ widths-taken c h e = part-take (c .count) (c .widths) (omega arith)
 pub length-widths : (c : Cascade) → length (widths c) ≡ c .count
 unfolding widths
 length-widths c = length-part 0 (c .count) (c .widths)
+
+-- the widths from a place on: the one there, and those after it
+pub widths-from : (c : Cascade) (i : ℕ) → c .count ≤ 48 → length (c .widths) ≡ 48 → i < c .count
+    → drop i (widths c) ≡ getD (c .widths) i 0 ∷ drop (suc i) (widths c)
+widths-from c i h e l =
+    drop-cons (widths c) i 0 (rw length-widths l)
+    ∙ ap (λ n. n ∷ drop (suc i) (widths c)) (ap (λ ws. getD ws i 0) (widths-taken c h e) ∙ getD-take (c .count) (c .widths) i 0 l)
 
 -- A loop over the widths of a cascade that adds up f, no term of which is above most, after i of them.
 pub record Summed (f : ℕ → ℕ) (most : ℕ) (c : Cascade) (count i acc : ℕ) : Type 0 where

@@ -1,11 +1,13 @@
 // Document 01's recipe: its checks 1 to 4, its weight and reaches, its coefficients, the sizes that a
 // caller needs for buffers, and the scale card.
 mod checks;
+mod coefficients;
 mod sizes;
 
 pub use checks::Measures;
 pub use checks::check;
 pub use checks::measure;
+pub use coefficients::kernel;
 pub use sizes::Cells;
 pub use sizes::FullSize;
 pub use sizes::full_size;

@@ -10,11 +10,11 @@ use native.Mathlib.Omega.{arith}
 use lib.Dec.{ltb}
 use lib.ListN.{length, getD, replicate, length-replicate, getD-replicate, List·getD-eq-default}
 use borrow.Author.Tests.{lt-ltb, le-ltb}
-use Rattle.spec.specs.Words.{sum, total, product}
+use Rattle.spec.specs.Words.{sum, tab, total, product}
 use Rattle.spec.specs.Recipe.{box, convolve, kernel, order}
 use Rattle.laws.proofs.Sums.{sum-agree, sum-first, sum-zero}
-use Rattle.laws.proofs.Lists.{length-tab, getD-tab, getD-tab-past}
-use Rattle.laws.proofs.Sequences.{boxed, boxed-sum}
+use Rattle.laws.proofs.Lists.{length-tab, getD-tab, getD-tab-past, tab-getD, tab-agree, factor-pos}
+use Rattle.laws.proofs.Sequences.{behind, boxed, running, boxed-running, boxed-sum, behind-agree, running-agree}
 use Rattle.laws.proofs.Convolution.{conv, ones, conv-agree, boxed-conv}
 
 -- a list as a sequence: 0 past its end
@@ -62,11 +62,6 @@ at-kernel n ns k =
     ∙ conv-agree (at (box n)) (ones n) (at (kernel ns)) (at (kernel ns)) k (λ a h. at-box n a) (λ a h. refl)
     ∙ sym (boxed-conv n (at (kernel ns)) k)
 
--- a factor of a product that is not 0
-factor-pos : (a b : ℕ) → 0 < a * b → 0 < b
-factor-pos a zero h = omega (arith, mul-zero a)
-factor-pos a (suc b) h = omega arith
-
 -- the single coefficient 1
 impulse-sum : (m : ℕ) → sum m (at (kernel [])) ≤ 1
 unfolding kernel at sum
@@ -96,3 +91,56 @@ length-kernel [] h = refl
 length-kernel (zero ∷ ns) h = omega (arith, zero-mul (product ns))
 length-kernel (suc n ∷ ns) h =
     omega (arith, length-convolve (box (suc n)) (kernel ns), length-box (suc n), length-kernel ns (factor-pos (suc n) (product ns) h))
+
+-- the single coefficient 1 stands at 0
+pub impulse-start : (k : ℕ) → k ≡ 0 → at (kernel []) k ≡ 1
+unfolding kernel at
+impulse-start k e = rw e refl
+
+pub impulse-later : (k : ℕ) → (k ≡ 0 → ⊥) → at (kernel []) k ≡ 0
+unfolding kernel at
+impulse-later zero h = absurd (h refl)
+impulse-later (suc k) h = refl
+
+-- a list that holds a sequence as far as it goes
+abbrev pub Holds : (ℕ → ℕ) → List ℕ → Type 0
+Holds f l = (k : ℕ) → k < length l → at l k ≡ f k
+
+pub tab-holds : (n : ℕ) (f : ℕ → ℕ) → Holds f (tab n f)
+unfolding at
+tab-holds n f k h = getD-tab n f k 0 (rw length-tab at h)
+
+pub holds-tab : (f : ℕ → ℕ) (l : List ℕ) → Holds f l → l ≡ tab (length l) f
+unfolding at
+holds-tab f l h = sym (tab-getD 0 l) ∙ tab-agree (length l) (λ k. getD l k 0) f h
+
+-- Running totals, and from each the total n places earlier taken away: one box filter more.
+module _ (f : ℕ → ℕ) (l : List ℕ) (h : Holds f l) where
+  abbrev Totals : List ℕ → Type 0
+  Totals m = m ≡ tab (length l) (running (at l))
+
+  totals-hold : (m : List ℕ) → Totals m → Holds (running f) m
+  totals-hold m e k g =
+      let s : length m ≡ length l = ap length e ∙ length-tab (length l) (running (at l)) in
+      ap (λ x. at x k) e
+      ∙ tab-holds (length l) (running (at l)) k (rw length-tab (omega arith))
+      ∙ running-agree (at l) f k (λ j i. h j (omega arith))
+
+  totals-behind : (m : List ℕ) → Totals m → (n k : ℕ) → k < length m → behind (at m) n k ≡ behind (running f) n k
+  totals-behind m e n k g = behind-agree (at m) (running f) k (λ j i. totals-hold m e j (omega arith)) n
+
+  pub totals-rise : (m : List ℕ) → Totals m → (n k : ℕ) → k < length m → behind (at m) n k ≤ at m k
+  totals-rise m e n k g = omega (arith, totals-behind m e n k g, totals-hold m e k g, boxed-running f n k)
+
+  pub totals-box : (m d : List ℕ) (n : ℕ) → Totals m → d ≡ tab (length m) (λ k. at m k - behind (at m) n k) → Holds (boxed n f) d
+  totals-box m d n e p k g =
+      let s : length d ≡ length m = ap length p ∙ length-tab (length m) (λ k. at m k - behind (at m) n k) in
+      let i : k < length m = omega arith in
+      omega (
+        arith,
+        ap (λ x. at x k) p,
+        tab-holds (length m) (λ k. at m k - behind (at m) n k) k (rw length-tab i),
+        totals-behind m e n k i,
+        totals-hold m e k i,
+        boxed-running f n k,
+      )

@@ -4,11 +4,11 @@ use mathlib.Core.Path.{_≡_, refl, sym, ap, ap₂, _∙_}
 use mathlib.Core.Bool.{_||_}
 use mathlib.Core.List.{List, [], _∷_, _++_}
 use Prim.Native.Nat.{ℕ, zero, suc, _+_, _*_, _≤_, _<_, suc-le-suc}
-use native.Mathlib.Nat.{zero-add, le-of-suc-le-suc, not-suc-le-zero, zero-lt-suc, mul-one, mul-assoc}
+use native.Mathlib.Nat.{zero-add, le-of-suc-le-suc, not-suc-le-zero, zero-lt-suc, mul-zero, mul-one, mul-comm, mul-assoc, le-refl, le-trans, le-of-eq, le-mul-of-pos-right}
 use native.Mathlib.Numerals.{add-one}
 use native.Mathlib.Omega.{arith}
 use lib.Dec.{eqb}
-use lib.ListN.{length, getD, take, List·getD-eq-default}
+use lib.ListN.{length, getD, take, drop, List·getD-eq-default}
 use lib.Seq.{ext-getD, getD-take, length-take-le, take-suc}
 use Rattle.laws.proofs.Numbers.{zero-factor}
 use Rattle.spec.specs.Words.{tab, part, total, product, somewhere}
@@ -82,3 +82,17 @@ pub product-zero : (xs : List ℕ) → somewhere (λ n. eqb n 0) xs ≡ eqb (pro
 unfolding product somewhere
 product-zero [] = refl
 product-zero (x ∷ xs) = ap (λ b. eqb x 0 || b) (product-zero xs) ∙ zero-factor x (product xs)
+
+-- a factor of a product that is not 0
+pub factor-pos : (a b : ℕ) → 0 < a * b → 0 < b
+factor-pos a zero h = omega (arith, mul-zero a)
+factor-pos a (suc b) h = omega arith
+
+-- the product of the back of a list is no more than the whole, where no entry is 0
+pub product-back : (i : ℕ) (xs : List ℕ) → 0 < product xs → product (drop i xs) ≤ product xs
+unfolding product
+product-back zero xs h = le-refl (product xs)
+product-back (suc i) [] h = le-refl 1
+product-back (suc i) (x ∷ xs) h =
+    le-trans (product-back i xs (factor-pos x (product xs) h))
+    (le-trans (le-mul-of-pos-right (product xs) (factor-pos (product xs) x (rw (mul-comm (product xs) x) h))) (le-of-eq (mul-comm (product xs) x)))

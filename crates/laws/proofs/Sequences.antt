@@ -90,3 +90,13 @@ module _ (f : ℕ → ℕ) where
   boxed-sum zero m = omega (arith, sum-zero m, zero-mul (sum m f))
   boxed-sum (suc n) m =
       omega (arith, sum-add (boxed n f) (behind f n) m, boxed-sum n m, behind-sum n m, suc-mul n (sum m f))
+
+-- sequences that agree up to k
+module _ (f g : ℕ → ℕ) (k : ℕ) (e : (j : ℕ) → j ≤ k → f j ≡ g j) where
+  pub behind-agree : (a : ℕ) → behind f a k ≡ behind g a k
+  unfolding behind
+  behind-agree a = ap (λ x. cond (leb a k) x 0) (e (k - a) (omega arith))
+
+  pub running-agree : running f k ≡ running g k
+  unfolding running
+  running-agree = sum-agree f g (suc k) (λ j h. e j (omega arith))

@@ -1,7 +1,7 @@
 -- Loops that rewrite a slice in place, entry by entry, from the left or from the right: at each turn the slice is the front of
 -- one list and the back of another, of the same length.
 -- Assumes nothing.
-use mathlib.Core.Path.{_≡_, refl, sym, ap, ap₂, _∙_}
+use mathlib.Core.Path.{_≡_, refl, sym, ap, ap₂, subst, _∙_}
 use mathlib.Core.List.{List, [], _∷_, _++_, append-nil}
 use Prim.Native.Nat.{ℕ, suc, _+_, _-_, _≤_, _<_}
 use native.Mathlib.Nat.{le-refl, add-sub-of-le}
@@ -9,6 +9,8 @@ use native.Mathlib.Decide.{decLt}
 use native.Mathlib.Numerals.{add-one}
 use native.Mathlib.Omega.{arith}
 use lib.ListN.{length, getD, take, drop, set, length-append, length-drop, drop-of-length-le, List·getD-append}
+use Rattle.spec.specs.Words.{tab}
+use Rattle.laws.proofs.Lists.{length-tab, getD-tab}
 use lib.Seq.{length-take-le, take-all, take-suc, drop-cons, append-snoc, set-at, getD-take, getD-drop, getD-append-add, ext-getD}
 
 module _ {A : Type 0} where
@@ -120,3 +122,39 @@ module _ {A : Type 0} where
         | yes g ↦ mixed-front d m k g ∙ e k g
         | no g ↦ mixed-back d m k (omega arith)
       ])
+
+-- A loop that gives each entry k of a slice the value f k.
+module _ {A : Type 0} (f : ℕ → A) (old : List A) where
+  -- up to k from the left, and from k on from the right
+  abbrev pub Leftwards : ℕ → List A → Type 0
+  Leftwards k l = Mixed k old (tab (length old) f) l
+
+  abbrev pub Rightwards : ℕ → List A → Type 0
+  Rightwards k l = Mixed k (tab (length old) f) old l
+
+  pub rightwards-none : Rightwards 0 old
+  rightwards-none = mixed-none (tab (length old) f) old (length-tab (length old) f)
+
+  pub rightwards-more : {k : ℕ} {l : List A} (v : A) → Rightwards k l → k < length old → v ≡ f k → Rightwards (k + 1) (set l k v)
+  rightwards-more {k} {l} v m h e =
+      subst (λ x. Mixed (k + 1) (tab (length old) f) old (set l k x)) (getD-tab (length old) f k v h ∙ sym e) (mixed-up v m h)
+
+  pub rightwards-all : {k : ℕ} {l : List A} → Rightwards k l → length old ≤ k → l ≡ tab (length old) f
+  rightwards-all m h = mixed-all m h
+
+  pub leftwards-none : Leftwards (length old) old
+  leftwards-none =
+      subst (λ n. Leftwards n old) (length-tab (length old) f)
+      (mixed-whole old (tab (length old) f) (sym (length-tab (length old) f)))
+
+  pub leftwards-more : (k : ℕ) {l : List A} (v : A) → Leftwards (k + 1) l → v ≡ f k → Leftwards k (set l k v)
+  leftwards-more k {l} v m e =
+      let h : k < length old = omega (arith, m .inside, length-tab (length old) f) in
+      subst (λ x. Leftwards k (set l k x)) (getD-tab (length old) f k v h ∙ sym e) (mixed-down v k m)
+
+  pub leftwards-all : {k : ℕ} {l : List A} (d : A) → Leftwards k l → ((j : ℕ) → j < k → getD old j d ≡ f j) → l ≡ tab (length old) f
+  leftwards-all {k} d m e =
+      mixed-rest d m
+      (λ j h.
+      let i : j < length old = omega (arith, m .inside, length-tab (length old) f) in
+      e j h ∙ sym (getD-tab (length old) f j d i))

@@ -1,0 +1,71 @@
+-- What filling in the coefficients of a list answers, from what measuring the list as a recipe of its own does.
+-- Assumes nothing.
+use mathlib.Core.Path.{_≡_, refl, sym, ap, _∙_}
+use mathlib.Core.Bool.{Bool, true, false, cond, not}
+use mathlib.Core.List.{List, [], _∷_, _++_}
+use Prim.Native.Nat.{ℕ, _+_, _*_, _^_, _≤_, _<_}
+use native.Mathlib.Nat.{mul-one}
+use native.Mathlib.Omega.{arith}
+use lib.Dec.{eqb}
+use lib.ListN.{length}
+use borrow.Author.Tests.{eq-eqb, ne-eqb}
+use Rattle.spec.specs.Words.{tab, product}
+use Rattle.spec.specs.Recipe.{kernel, order, gain}
+use Rattle.spec.specs.Refusals.{first, alone, otherLength, recipeChecks, kernelChecks}
+use Rattle.laws.proofs.Kernels.{at, holds-tab, length-kernel}
+use Rattle.laws.proofs.Refusals.{lent-refused, lent-accepted}
+use Rattle.filter.specs.declared.checks.Measures.{Measures}
+use Rattle.filter.specs.Measured.{Measured}
+use Rattle.filter.specs.Filled.{Filled}
+use Rattle.filter.proofs.Refusal.{Known, known, measured-refused, measured-then}
+
+module _ (ns old : List ℕ) (m : Measures) (s : Measured (alone ns) m) where
+  -- a refusal by 1 to 4
+  pub filled-refused : (m .refusal ≡ 0 → ⊥) → Filled ns old (m .refusal) old
+  unfolding kernelChecks
+  filled-refused h =
+      let e = measured-refused s _ h in
+      record { answer = sym e; slice = sym (lent-refused _ _ old (m .refusal) e h) }
+
+  module _ (z : m .refusal ≡ 0) where
+    pub list-known : Known (alone ns) m
+    list-known = known s z
+
+    -- the weight of the list
+    pub list-weight : (0 < product ns) × (product ns ≤ 2 ^ 44)
+    unfolding gain alone product
+    list-weight =
+        let k = list-known .accepted in
+        (omega (arith, k .notZero, mul-one (product ns)), omega (arith, k .light, mul-one (product ns)))
+
+    -- 7 goes by the length of the slice
+    by-length : first (kernelChecks ns (length old)) ≡ cond (otherLength (length old) (order ns + 1)) 7 0
+    unfolding kernelChecks
+    by-length = measured-then s z (otherLength (length old) (order ns + 1)) 7
+
+    reach : m .«row_order» ≡ order ns
+    unfolding alone
+    reach = list-known .rowReach
+
+    pub filled-other : (length old ≡ m .«row_order» + 1 → ⊥) → Filled ns old 7 old
+    unfolding otherLength
+    filled-other h =
+        let e : first (kernelChecks ns (length old)) ≡ 7 =
+        by-length ∙ ap (λ b. cond (not b) 7 0) (ne-eqb (length old) (order ns + 1) (λ p. h (p ∙ ap (λ n. n + 1) (sym reach)))) in
+        record { answer = sym e; slice = sym (lent-refused _ _ old 7 e (λ p. omega arith)) }
+
+    pub filled-all : (new : List ℕ) → length old ≡ m .«row_order» + 1 → new ≡ tab (length old) (at (kernel ns)) → Filled ns old 0 new
+    unfolding otherLength
+    filled-all new l p =
+        let size : length old ≡ order ns + 1 = l ∙ ap (λ n. n + 1) reach in
+        let e : first (kernelChecks ns (length old)) ≡ 0 =
+        by-length ∙ ap (λ b. cond (not b) 7 0) (eq-eqb (length old) (order ns + 1) size) in
+        let whole : length old ≡ length (kernel ns) = size ∙ sym (length-kernel ns (list-weight .0)) in
+        record {
+          answer = sym e;
+          slice =
+              p
+              ∙ ap (λ n. tab n (at (kernel ns))) whole
+              ∙ sym (holds-tab (at (kernel ns)) (kernel ns) (λ k h. refl))
+              ∙ sym (lent-accepted _ (kernel ns) old e);
+        }
