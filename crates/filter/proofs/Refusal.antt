@@ -18,6 +18,7 @@ use Rattle.laws.proofs.Lists.{length-part, product-zero}
 use Rattle.laws.proofs.Refusals.{Accepted, is-accepted, first-front, first-then, recipe-numbered}
 use Rattle.laws.proofs.Numbers.{zero-factor, cap-times}
 use Rattle.filter.specs.declared.checks.Measures.{Measures}
+use Rattle.filter.proofs.Widths.{length-widths}
 use Rattle.filter.specs.Measured.{Measured, refusedBy, verdictOf}
 
 -- 1 goes by the counts
@@ -131,3 +132,9 @@ measured-refused {r} {m} s ds h = first-front (recipeChecks r) ds (m .refusal) (
 
 pub measured-then : {r : Recipe} {m : Measures} → Measured r m → m .refusal ≡ 0 → (b : Bool) (n : ℕ) → first (recipeChecks r ++ check b n ∷ []) ≡ cond b n 0
 measured-then {r} s e b n = first-then (recipeChecks r) b n (recipe-numbered r) (sym (s .number) ∙ e)
+
+-- the counts of an accepted recipe
+pub known-counts : (f : Filter) {m : Measures} → Known (recipe f) m → (f .rows .count ≤ 48) × (f .columns .count ≤ 48)
+unfolding recipe
+known-counts f k =
+    (omega (arith, length-widths (f .rows), k .accepted .rowsShort), omega (arith, length-widths (f .columns), k .accepted .columnsShort))

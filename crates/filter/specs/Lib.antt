@@ -1,3 +1,4 @@
 pub mod Measured
 pub mod Sizes
 pub mod Filled
+pub mod Told

@@ -1,9 +1,13 @@
 // Document 01's recipe: its checks 1 to 4, its weight and reaches, its coefficients, the sizes that a
 // caller needs for buffers, and the scale card.
+mod card;
 mod checks;
 mod coefficients;
 mod sizes;
 
+pub use card::Card;
+pub use card::Scale;
+pub use card::moments;
 pub use checks::Measures;
 pub use checks::check;
 pub use checks::measure;

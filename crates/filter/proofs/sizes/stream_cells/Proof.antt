@@ -7,8 +7,7 @@ use mathlib.Core.Bool.{cond, false}
 use Rattle.spec.specs.Recipe.{recipe}
 use Rattle.spec.specs.Refusals.{badSide, cellChecks}
 use Rattle.laws.proofs.Refusals.{answer-refused, answer-accepted, good-side}
-use Rattle.filter.proofs.Refusal.{Known, known, measured-refused, measured-then}
-use Rattle.filter.proofs.Widths.{length-widths}
+use Rattle.filter.proofs.Refusal.{Known, known, known-counts, measured-refused, measured-then}
 use native.Mathlib.Nat.{mul-le-mul}
 use Rattle.spec.specs.Picture.{fullWidth}
 use Rattle.spec.specs.Stream.{streamCells}
@@ -54,15 +53,11 @@ accepted c =
 
 -- src/sizes.rt:96:9
 cascade-cells-requires : tie.Need-cascade-cells-requires
-unfolding recipe
-cascade-cells-requires c κs =
-    omega (arith, length-widths (c .before .before .before .before .args .filter .rows), accepted c .0 .accepted .rowsShort)
+cascade-cells-requires c κs = known-counts _ (accepted c .0) .0
 
 -- src/sizes.rt:97:9
 cascade-cells-requires-2 : tie.Need-cascade-cells-requires-2
-unfolding recipe
-cascade-cells-requires-2 c κs =
-    omega (arith, length-widths (c .before .before .before .before .before .args .filter .columns), accepted (c .before) .0 .accepted .columnsShort)
+cascade-cells-requires-2 c κs = known-counts _ (accepted (c .before) .0) .1
 
 -- the grown width, and the cells of all columns
 wide : (c : tie.Else2) → let now = c .before .before .before in now .before .args .width + now .measure .result .«row_order» ≤ 1279
