@@ -50,14 +50,31 @@ pub answer-accepted : {A : Type 0} (cs : List Check) (a : A) → first cs ≡ 0 
 unfolding answer either
 answer-accepted cs a e = rw e refl
 
-pub lent-refused : (cs : List Check) (new old : List ℕ) (n : ℕ) → first cs ≡ n → (n ≡ 0 → ⊥) → lent cs new old ≡ old
+pub lent-refused : {A : Type 0} (cs : List Check) (new old : A) (n : ℕ) → first cs ≡ n → (n ≡ 0 → ⊥) → lent cs new old ≡ old
 unfolding lent either
 lent-refused cs new old zero e h = absurd (h refl)
 lent-refused cs new old (suc n) e h = rw e refl
 
-pub lent-accepted : (cs : List Check) (new old : List ℕ) → first cs ≡ 0 → lent cs new old ≡ new
+pub lent-accepted : {A : Type 0} (cs : List Check) (new old : A) → first cs ≡ 0 → lent cs new old ≡ new
 unfolding lent either
 lent-accepted cs new old e = rw e refl
+
+-- what an answer that is a refusal, or a value, says of the checks
+pub read-refused : {A : Type 0} (cs : List Check) (v : A) (n : ℕ) → refused n ≡ answer cs v → (first cs ≡ n) × (n ≡ 0 → ⊥)
+unfolding answer either
+read-refused {A} cs v n e = go (first cs) e
+  where
+    go : (k : ℕ) → refused n ≡ either k (accepted v) (refused k) → (k ≡ n) × (n ≡ 0 → ⊥)
+    go zero p = let z : _≡_ {A = ℕ} 0 1 = cc in absurd (omega arith)
+    go (suc k) p = let q : suc k ≡ n = cc in (q, λ z. omega arith)
+
+pub read-accepted : {A : Type 0} (cs : List Check) (v a : A) → accepted a ≡ answer cs v → (first cs ≡ 0) × (a ≡ v)
+unfolding answer either
+read-accepted {A} cs v a e = go (first cs) e
+  where
+    go : (k : ℕ) → accepted a ≡ either k (accepted v) (refused k) → (k ≡ 0) × (a ≡ v)
+    go zero p = (refl, cc)
+    go (suc k) p = let z : _≡_ {A = ℕ} 0 1 = cc in absurd (omega arith)
 
 -- none of a list of conditions holds
 pub first-none : (b : Bool) (n : ℕ) (cs : List Check) → first (check b (suc n) ∷ cs) ≡ 0 → (b ≡ false) × (first cs ≡ 0)

@@ -106,8 +106,8 @@ either (suc n) a b = b
 unfoldable pub answer : {A : Type 0} → List Check → A → Answer A
 answer cs a = either (first cs) (accepted a) (refused (first cs))
 
--- what a lent slice then contains: the new list, or on a refusal what it was
-unfoldable pub lent : List Check → List ℕ → List ℕ → List ℕ
+-- what a lent slice then contains: the new content, or on a refusal what it was
+unfoldable pub lent : {A : Type 0} → List Check → A → A → A
 lent cs new old = either (first cs) new old
 
 -- ---- the order of each call
