@@ -1,35 +1,34 @@
 -- What filling in the coefficients of a list answers, from what measuring the list as a recipe of its own does.
 -- Assumes nothing.
 use mathlib.Core.Path.{_≡_, refl, sym, ap, _∙_}
-use mathlib.Core.Bool.{Bool, true, false, cond, not}
-use mathlib.Core.List.{List, [], _∷_, _++_}
-use Prim.Native.Nat.{ℕ, _+_, _*_, _^_, _≤_, _<_}
+use mathlib.Core.Bool.{cond, not}
+use mathlib.Core.List.{List}
+use Prim.Native.Nat.{ℕ, _+_, _^_, _≤_, _<_}
 use native.Mathlib.Nat.{mul-one}
 use native.Mathlib.Omega.{arith}
-use lib.Dec.{eqb}
 use lib.ListN.{length}
 use borrow.Author.Tests.{eq-eqb, ne-eqb}
 use Rattle.spec.specs.Words.{tab, product}
 use Rattle.spec.specs.Recipe.{kernel, order, gain}
-use Rattle.spec.specs.Refusals.{first, alone, otherLength, recipeChecks, kernelChecks}
+use Rattle.spec.specs.Refusals.{first, alone, otherLength, kernelChecks}
 use Rattle.laws.proofs.Kernels.{at, holds-tab, length-kernel}
 use Rattle.laws.proofs.Refusals.{lent-refused, lent-accepted}
 use Rattle.filter.specs.declared.checks.Measures.{Measures}
-use Rattle.filter.specs.Measured.{Measured}
+use Rattle.filter.specs.Measured.{measured}
 use Rattle.filter.specs.Filled.{Filled}
 use Rattle.filter.proofs.Refusal.{Known, known, measured-refused, measured-then}
 
-module _ (ns old : List ℕ) (m : Measures) (s : Measured (alone ns) m) where
+module _ (ns old : List ℕ) (m : Measures) (s : m ≡ measured (alone ns)) where
   -- a refusal by 1 to 4
   pub filled-refused : (m .refusal ≡ 0 → ⊥) → Filled ns old (m .refusal) old
   unfolding kernelChecks
   filled-refused h =
-      let e = measured-refused s _ h in
+      let e = measured-refused (alone ns) m s _ h in
       record { answer = sym e; slice = sym (lent-refused _ _ old (m .refusal) e h) }
 
   module _ (z : m .refusal ≡ 0) where
     pub list-known : Known (alone ns) m
-    list-known = known s z
+    list-known = known (alone ns) m s z
 
     -- the weight of the list
     pub list-weight : (0 < product ns) × (product ns ≤ 2 ^ 44)
@@ -41,7 +40,7 @@ module _ (ns old : List ℕ) (m : Measures) (s : Measured (alone ns) m) where
     -- 7 goes by the length of the slice
     by-length : first (kernelChecks ns (length old)) ≡ cond (otherLength (length old) (order ns + 1)) 7 0
     unfolding kernelChecks
-    by-length = measured-then s z (otherLength (length old) (order ns + 1)) 7
+    by-length = measured-then (alone ns) m s z (otherLength (length old) (order ns + 1)) 7
 
     reach : m .«row_order» ≡ order ns
     unfolding alone

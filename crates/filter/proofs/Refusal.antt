@@ -8,7 +8,6 @@ use native.Mathlib.Nat.{one-mul}
 use native.Mathlib.Decide.{decLe}
 use native.Mathlib.Omega.{arith}
 use lib.Dec.{eqb, ltb}
-use lib.ListN.{length}
 use borrow.Author.Tests.{lt-ltb, le-ltb, eq-eqb, ne-eqb, ltb-false}
 use Rattle.spec.specs.declared.Filter.{Filter}
 use Rattle.spec.specs.Words.{product}
@@ -19,7 +18,7 @@ use Rattle.laws.proofs.Refusals.{Accepted, is-accepted, first-front, first-then
 use Rattle.laws.proofs.Numbers.{zero-factor, cap-times}
 use Rattle.filter.specs.declared.checks.Measures.{Measures}
 use Rattle.filter.proofs.Widths.{length-widths}
-use Rattle.filter.specs.Measured.{Measured, refusedBy, verdictOf}
+use Rattle.filter.specs.Measured.{measured, refusedBy}
 
 -- 1 goes by the counts
 by-counts : (f : Filter) → tooLong (recipe f) ≡ (ltb 48 (f .rows .count) || ltb 48 (f .columns .count))
@@ -63,10 +62,15 @@ heavy-capped g w e =
       | no h ↦ lt-ltb (2 ^ 44) w (omega arith) ∙ sym (lt-ltb (2 ^ 44) g (omega arith))
     ]
 
+-- the first of 2 to 4 that holds, by the two reaches and the weight so held
+abbrev pub verdictOf : ℕ → ℕ → ℕ → ℕ
+verdictOf rowReach columnReach weight =
+    first (check (eqb weight 0) 2 ∷ check (ltb 255 rowReach || ltb 255 columnReach) 3 ∷ check (ltb (2 ^ 44) weight) 4 ∷ [])
+
 -- 2 to 4 go by the reaches and the weight so held
 pub short : (r : Recipe) (g : ℕ) → tooLong r ≡ false → g ≡ min (gain r) (2 ^ 44 + 1)
     → first (recipeChecks r) ≡ verdictOf (order (r .rows)) (order (r .columns)) g
-unfolding first recipeChecks check verdictOf zeroWidth tooFar tooHeavy gain
+unfolding first recipeChecks check zeroWidth tooFar tooHeavy gain
 short r g e p =
     let zeros : zeroWidth r ≡ eqb g 0 =
     ap₂ _||_ (product-zero (r .rows)) (product-zero (r .columns))
@@ -75,10 +79,10 @@ short r g e p =
     rw (e, zeros, heavy-capped g (gain r) p) refl
 
 -- what a refused and an accepted recipe answer
-pub refused-so : (r : Recipe) (n : ℕ) → (n ≡ 0 → ⊥) → first (recipeChecks r) ≡ n → Measured r (refusedBy n)
-unfolding either
+pub refused-so : (r : Recipe) (n : ℕ) → (n ≡ 0 → ⊥) → first (recipeChecks r) ≡ n → refusedBy n ≡ measured r
+unfolding measured either
 refused-so r zero h e = absurd (h refl)
-refused-so r (suc n) h e = record { number = sym e; weight = rw e refl; rowReach = rw e refl; columnReach = rw e refl }
+refused-so r (suc n) h e = rw e refl
 
 last-of-three : (a b c : Bool) → _≡_ {A = ℕ} (cond a 2 (cond b 3 (cond c 4 0))) 0 → c ≡ false
 last-of-three a b false e = refl
@@ -88,23 +92,28 @@ last-of-three false false true e = absurd (omega arith)
 
 -- a weight that is held and not too heavy is the weight
 pub light : (w a b g : ℕ) → g ≡ min w (2 ^ 44 + 1) → verdictOf a b g ≡ 0 → g ≡ w
-unfolding first check verdictOf
+unfolding first check
 light w a b g p e =
     let l : g ≤ 2 ^ 44 = ltb-false (2 ^ 44) g (last-of-three (eqb g 0) (ltb 255 a || ltb 255 b) (ltb (2 ^ 44) g) e) in
     omega arith
 
 pub accepted-so : (r : Recipe) (m : Measures) → m .refusal ≡ 0 → m .gain ≡ min (gain r) (2 ^ 44 + 1)
     → m .«row_order» ≡ order (r .rows) → m .«column_order» ≡ order (r .columns)
-    → tooLong r ≡ false → verdictOf (order (r .rows)) (order (r .columns)) (m .gain) ≡ 0 → Measured r m
-unfolding either
+    → tooLong r ≡ false → verdictOf (order (r .rows)) (order (r .columns)) (m .gain) ≡ 0 → m ≡ measured r
+unfolding measured either
 accepted-so r m z g a b s v =
     let e : first (recipeChecks r) ≡ 0 = short r (m .gain) s g ∙ v in
-    record {
-      number = z ∙ sym e;
-      weight = rw e (light (gain r) (order (r .rows)) (order (r .columns)) (m .gain) g v);
-      rowReach = rw e a;
-      columnReach = rw e b;
-    }
+    let w = light (gain r) (order (r .rows)) (order (r .columns)) (m .gain) g v in
+    rw e (λ i. record { refusal = z i; gain = w i; «row_order» = a i; «column_order» = b i })
+
+-- the number that measuring answers is the recipe's
+pub number-is : (r : Recipe) (m : Measures) → m ≡ measured r → m .refusal ≡ first (recipeChecks r)
+unfolding measured either
+number-is r m e = ap (λ (x : Measures). x .refusal) e ∙ go (first (recipeChecks r))
+  where
+    go : (k : ℕ) → either k (record { refusal = 0; gain = gain r; «row_order» = order (r .rows); «column_order» = order (r .columns) }) (refusedBy k) .refusal ≡ k
+    go zero = refl
+    go (suc k) = refl
 
 -- what a caller knows of a recipe that measures as accepted
 pub record Known (r : Recipe) (m : Measures) : Type 0 where
@@ -114,24 +123,25 @@ pub record Known (r : Recipe) (m : Measures) : Type 0 where
   pub columnReach : m .«column_order» ≡ order (r .columns)
   pub accepted : Accepted r
 
-pub known : {r : Recipe} {m : Measures} → Measured r m → m .refusal ≡ 0 → Known r m
-unfolding either
-known {r} s e =
-    let z : first (recipeChecks r) ≡ 0 = sym (s .number) ∙ e in
+pub known : (r : Recipe) (m : Measures) → m ≡ measured r → m .refusal ≡ 0 → Known r m
+unfolding measured either
+known r m s e =
+    let z : first (recipeChecks r) ≡ 0 = sym (number-is r m s) ∙ e in
+    let is = rw z at s in
     record {
       none = z;
-      weight = rw z at (s .weight);
-      rowReach = rw z at (s .rowReach);
-      columnReach = rw z at (s .columnReach);
+      weight = ap (λ (x : Measures). x .gain) is;
+      rowReach = ap (λ (x : Measures). x .«row_order») is;
+      columnReach = ap (λ (x : Measures). x .«column_order») is;
       accepted = is-accepted r z;
     }
 
 -- the checks of a call that begin with a recipe's
-pub measured-refused : {r : Recipe} {m : Measures} → Measured r m → (ds : List Check) → (m .refusal ≡ 0 → ⊥) → first (recipeChecks r ++ ds) ≡ m .refusal
-measured-refused {r} {m} s ds h = first-front (recipeChecks r) ds (m .refusal) (sym (s .number)) h
+pub measured-refused : (r : Recipe) (m : Measures) → m ≡ measured r → (ds : List Check) → (m .refusal ≡ 0 → ⊥) → first (recipeChecks r ++ ds) ≡ m .refusal
+measured-refused r m s ds h = first-front (recipeChecks r) ds (m .refusal) (sym (number-is r m s)) h
 
-pub measured-then : {r : Recipe} {m : Measures} → Measured r m → m .refusal ≡ 0 → (b : Bool) (n : ℕ) → first (recipeChecks r ++ check b n ∷ []) ≡ cond b n 0
-measured-then {r} s e b n = first-then (recipeChecks r) b n (recipe-numbered r) (sym (s .number) ∙ e)
+pub measured-then : (r : Recipe) (m : Measures) → m ≡ measured r → m .refusal ≡ 0 → (b : Bool) (n : ℕ) → first (recipeChecks r ++ check b n ∷ []) ≡ cond b n 0
+measured-then r m s e b n = first-then (recipeChecks r) b n (recipe-numbered r) (sym (number-is r m s) ∙ e)
 
 -- the counts of an accepted recipe
 pub known-counts : (f : Filter) {m : Measures} → Known (recipe f) m → (f .rows .count ≤ 48) × (f .columns .count ≤ 48)

@@ -1,4 +1,3 @@
 pub mod Measured
-pub mod Sizes
+pub mod Answers
 pub mod Filled
-pub mod Told

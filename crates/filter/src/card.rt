@@ -4,7 +4,7 @@ ghost use Prim.Native.Nat.{_-_, _*_, _≤_, _<_, _^_};
 ghost use Rattle.spec.specs.Recipe.{widths, recipe};
 ghost use Rattle.spec.specs.Gray.{ratio as ratioOf, squares as squaresOf, variance as varianceOf, scaleCard};
 ghost use Rattle.spec.specs.Refusals.{answer, recipeChecks};
-ghost use Rattle.filter.specs.Told.{cardTold};
+ghost use Rattle.filter.specs.Answers.{cardTold};
 use crate::checks::measure;
 use spec::Cascade;
 use spec::Filter;

@@ -1,15 +1,18 @@
 // The checks of a recipe, with its weight and its reaches.
 ghost use mathlib.Core.Path.{_≡_};
+ghost use mathlib.Core.Bool.{_||_};
+ghost use mathlib.Core.List.{[], _∷_};
 ghost use Prim.Native.Nat.{_+_, _-_, _*_, _^_, _≤_, min};
+ghost use lib.Dec.{eqb, ltb};
 ghost use Rattle.spec.specs.Words.{product};
 ghost use Rattle.spec.specs.Recipe.{widths, recipe, order};
-ghost use Rattle.spec.specs.Refusals.{first, recipeChecks};
-ghost use Rattle.filter.specs.Measured.{Measured, refusedBy, Surveyed, verdictOf};
+ghost use Rattle.spec.specs.Refusals.{check, first, recipeChecks};
+ghost use Rattle.filter.specs.Measured.{measured, refusedBy};
 use spec::Cascade;
 use spec::Filter;
 
 // The largest weight, and what stands for every weight above it.
-pub(crate) const HEAVIEST: u64 = 17_592_186_044_416;
+const HEAVIEST: u64 = 17_592_186_044_416;
 
 const TOO_HEAVY: u64 = 17_592_186_044_417;
 
@@ -61,7 +64,7 @@ fn times(gain: u64, n: u8) -> u64
 
 fn survey(list: Cascade, gain: u64) -> Extent
     requires { ⌜ (list .count ≤ 48) × (gain ≤ 2 ^ 44 + 1) ⌝ }
-    ensures { λ r. ⌜ Surveyed (widths list) gain r ⌝ }
+    ensures { λ r. ⌜ (r .order ≡ order (widths list)) × (r .gain ≡ min (gain * product (widths list)) (2 ^ 44 + 1)) ⌝ }
 {
     let count = list.count as usize;
     let mut found = Extent { order: 0, gain };
@@ -77,7 +80,7 @@ fn survey(list: Cascade, gain: u64) -> Extent
 
 // The number of the first of 2 to 4 that holds, from the two reaches and the weight held at TOO_HEAVY.
 fn verdict(row_order: usize, column_order: usize, gain: u64) -> u8
-    ensures { λ r. ⌜ r ≡ verdictOf «row_order» «column_order» gain ⌝ }
+    ensures { λ r. ⌜ r ≡ first (check (eqb gain 0) 2 ∷ check (ltb 255 «row_order» || ltb 255 «column_order») 3 ∷ check (ltb (2 ^ 44) gain) 4 ∷ []) ⌝ }
 {
     if gain == 0 {
         2
@@ -94,7 +97,7 @@ fn verdict(row_order: usize, column_order: usize, gain: u64) -> u8
 
 // The refusal, the weight and the reaches of a recipe.
 pub fn measure(filter: Filter) -> Measures
-    ensures { λ r. ⌜ Measured (recipe filter) r ⌝ }
+    ensures { λ r. ⌜ r ≡ measured (recipe filter) ⌝ }
 {
     let rows = filter.rows;
     let columns = filter.columns;

@@ -6,7 +6,7 @@ ghost use Rattle.spec.specs.Recipe.{widths, recipe};
 ghost use Rattle.spec.specs.Picture.{fullSides};
 ghost use Rattle.spec.specs.Stream.{boxCells, streamCells};
 ghost use Rattle.spec.specs.Refusals.{badSide, badSides, answer, sizeChecks, cellChecks};
-ghost use Rattle.filter.specs.Sizes.{sizeTold, cellsTold};
+ghost use Rattle.filter.specs.Answers.{sizeTold, cellsTold};
 use crate::checks::measure;
 use spec::Cascade;
 use spec::Filter;

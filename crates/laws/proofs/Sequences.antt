@@ -1,12 +1,11 @@
 -- Sequences ℕ → ℕ, 0 before their start, and the box filter on them.
 -- Assumes nothing.
-use mathlib.Core.Path.{_≡_, refl, sym, ap, ap₂, _∙_}
+use mathlib.Core.Path.{_≡_, refl, ap}
 use mathlib.Core.Bool.{cond}
-use Prim.Native.Nat.{ℕ, zero, suc, _+_, _-_, _*_, _≤_, _<_, min}
-use native.Mathlib.Nat.{zero-add, le-refl, le-of-eq, suc-sub-suc, sub-zero, min-comm, zero-mul, suc-mul}
-use native.Mathlib.Decide.{decLe}
+use Prim.Native.Nat.{ℕ, zero, suc, _+_, _-_, _*_, _≤_, _<_}
+use native.Mathlib.Nat.{zero-add, le-refl, le-of-eq, suc-sub-suc, sub-zero, zero-mul, suc-mul}
 use native.Mathlib.Omega.{arith}
-use lib.Dec.{leb, ltb, leb·suc-suc, leb·suc-zero, leb·zero}
+use lib.Dec.{leb, leb·suc-suc, leb·suc-zero, leb·zero}
 use borrow.Author.Tests.{le-leb, lt-leb}
 use Rattle.spec.specs.Words.{sum}
 use Rattle.laws.proofs.Sums.{sum-agree, sum-zero, sum-add, sum-first}

@@ -1,26 +1,18 @@
-use mathlib.Core.Path.{_≡_, refl, sym, ap, ap₂, _∙_}
-use mathlib.Core.List.{List, [], _∷_, _++_}
-use Prim.Native.Nat.{ℕ, suc, _+_, _-_, _*_, _/_, _%_, _^_, _≤_, _<_}
-use native.Mathlib.Omega.{arith}
+-- `bore_c::bore_moments` meets its contract: the answer of `filter::moments`, case by case.
+-- Assumes nothing.
+use mathlib.Core.Path.{_≡_, sym, ap, _∙_}
 use borrow.Author.Needs.{needs}
 use Rattle.spec.specs.Gray.{ScaleCard, scaleCard}
 use Rattle.spec.specs.Refusals.{answer, recipeChecks}
 use Rattle.laws.proofs.Refusals.{lent-refused, lent-accepted, read-refused, read-accepted}
-use Rattle.filter.specs.Told.{cardTold}
+use Rattle.filter.specs.Answers.{cardTold}
 use Rattle.bore_c.specs.Given.{given}
-use lib.ListN.{length, getD, take, drop, set, length-set}
 use Rattle.bore_c.proofs.bore_moments.Statement.{statement}
 use Rattle.bore_c.proofs.bore_moments.Tie as tie
-use Rattle.bore_c.proofs.bore_moments.Reads as reads
-use Rattle.bore_c.proofs.bore_moments.Lts as lts
-use Rattle.bore_c.proofs.filter_of.Reads as filter-of-reads
-use Rattle.filter.proofs.moments.Reads as moments-reads
 
--- src/lib.rt:110:34
 filter-of-requires : tie.Need-filter-of-requires
 filter-of-requires c κs = search needs
 
--- src/lib.rt:110:9
 moments-requires : tie.Need-moments-requires
 moments-requires c κs = search needs
 
@@ -33,22 +25,18 @@ answered c =
     let args = c .before .before .args in
     c .moments .ensures ∙ ap (λ g. answer (recipeChecks g) (scaleCard g)) (c .before .filter-of .ensures)
 
--- src/lib.rt:112:23
 enum-known-answer : tie.Need-enum-known-answer
 enum-known-answer c = search needs
 
--- src/lib.rt:113:18
 enum-known-answer-2 : tie.Need-enum-known-answer-2
 enum-known-answer-2 c = search needs
 
--- src/lib.rt:98:1
 returns : tie.Need-returns
 returns c =
     let told = ap cardTold (sym (c .before .answer .given .1)) ∙ answered (c .before .before .before) in
     let q = read-refused _ _ _ told in
     (sym (q .0), sym (lent-refused _ _ _ _ (q .0) (q .1)), sym (lent-refused _ _ _ _ (q .0) (q .1)), sym (lent-refused _ _ _ _ (q .0) (q .1)), sym (lent-refused _ _ _ _ (q .0) (q .1)), sym (lent-refused _ _ _ _ (q .0) (q .1)))
 
--- src/lib.rt:98:1
 returns-2 : tie.Need-returns-2
 unfolding scaleCard
 returns-2 c =

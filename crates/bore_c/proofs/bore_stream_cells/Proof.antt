@@ -1,26 +1,18 @@
-use mathlib.Core.Path.{_≡_, refl, sym, ap, ap₂, _∙_}
-use mathlib.Core.List.{List, [], _∷_, _++_}
-use Prim.Native.Nat.{ℕ, suc, _+_, _-_, _*_, _/_, _%_, _^_, _≤_, _<_}
-use native.Mathlib.Omega.{arith}
+-- `bore_c::bore_stream_cells` meets its contract: the answer of `filter::stream_cells`, case by case.
+-- Assumes nothing.
+use mathlib.Core.Path.{_≡_, sym, ap, _∙_}
 use borrow.Author.Needs.{needs}
 use Rattle.spec.specs.Stream.{streamCells}
 use Rattle.spec.specs.Refusals.{answer, cellChecks}
 use Rattle.laws.proofs.Refusals.{lent-refused, lent-accepted, read-refused, read-accepted}
-use Rattle.filter.specs.Sizes.{cellsTold}
+use Rattle.filter.specs.Answers.{cellsTold}
 use Rattle.bore_c.specs.Given.{given}
-use lib.ListN.{length, getD, take, drop, set, length-set}
 use Rattle.bore_c.proofs.bore_stream_cells.Statement.{statement}
 use Rattle.bore_c.proofs.bore_stream_cells.Tie as tie
-use Rattle.bore_c.proofs.bore_stream_cells.Reads as reads
-use Rattle.bore_c.proofs.bore_stream_cells.Lts as lts
-use Rattle.bore_c.proofs.filter_of.Reads as filter-of-reads
-use Rattle.filter.proofs.stream_cells.Reads as stream-cells-reads
 
--- src/lib.rt:87:39
 filter-of-requires : tie.Need-filter-of-requires
 filter-of-requires c κs = search needs
 
--- src/lib.rt:87:9
 stream-cells-requires : tie.Need-stream-cells-requires
 stream-cells-requires c κs = search needs
 
@@ -33,22 +25,18 @@ answered c =
     let w = c .before .before .args .width in
     c .stream-cells .ensures ∙ ap (λ g. answer (cellChecks g w) (streamCells g w)) (c .before .filter-of .ensures)
 
--- src/lib.rt:89:24
 enum-known-answer : tie.Need-enum-known-answer
 enum-known-answer c = search needs
 
--- src/lib.rt:90:23
 enum-known-answer-2 : tie.Need-enum-known-answer-2
 enum-known-answer-2 c = search needs
 
--- src/lib.rt:80:1
 returns : tie.Need-returns
 returns c =
     let told = ap cellsTold (sym (c .before .answer .given .1)) ∙ answered (c .before .before .before) in
     let q = read-refused _ _ _ told in
     (sym (q .0), sym (lent-refused _ _ _ _ (q .0) (q .1)))
 
--- src/lib.rt:80:1
 returns-2 : tie.Need-returns-2
 returns-2 c =
     let told = ap cellsTold (sym (c .before .answer2 .given .1)) ∙ answered (c .before .before .before) in

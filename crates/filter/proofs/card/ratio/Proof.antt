@@ -1,28 +1,22 @@
-use mathlib.Core.Path.{_≡_, refl, sym, ap, ap₂, _∙_}
-use mathlib.Core.List.{List, [], _∷_, _++_}
-use Prim.Native.Nat.{ℕ, suc, _+_, _-_, _*_, _/_, _%_, _^_, _≤_, _<_}
+-- `filter::card::ratio` meets its contract: a 64-bit float holds both integers, and the quotient is one division.
+-- Assumes nothing.
+use Prim.Native.Nat.{_^_}
 use native.Mathlib.Omega.{arith}
 use borrow.Author.Needs.{needs}
 use lib.Dec.{le→leb}
 use lib.Ieee.{inFloat}
 use Rattle.spec.specs.Gray.{ratio, float}
-use lib.ListN.{length, getD, take, drop, set, length-set}
 use Rattle.filter.proofs.card.ratio.Statement.{statement}
 use Rattle.filter.proofs.card.ratio.Tie as tie
-use Rattle.filter.proofs.card.ratio.Reads as reads
-use Rattle.filter.proofs.card.ratio.Lts as lts
 
--- src/card.rt:317:6
 int-to-float-result : tie.Need-int-to-float-result
 unfolding inFloat
 int-to-float-result c = le→leb (c .before .args .m) (2 ^ 53) (omega arith)
 
--- src/card.rt:317:19
 int-to-float-result-2 : tie.Need-int-to-float-result-2
 unfolding inFloat
 int-to-float-result-2 c = le→leb (c .before .before .args .d) (2 ^ 53) (omega arith)
 
--- src/card.rt:313:1
 returns : tie.Need-returns
 unfolding ratio float
 returns c = search needs

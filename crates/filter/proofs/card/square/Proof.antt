@@ -1,17 +1,17 @@
-use mathlib.Core.Path.{_≡_, refl, sym, ap, ap₂, _∙_}
-use mathlib.Core.List.{List, [], _∷_, _++_}
-use Prim.Native.Nat.{ℕ, suc, _+_, _-_, _*_, _/_, _%_, _^_, _≤_, _<_}
+-- `filter::card::square` meets its contract: the table's rule is one list that antt computes.
+-- Assumes nothing.
+use mathlib.Core.Path.{_≡_, sym, ap, _∙_}
+use mathlib.Core.List.{List}
+use Prim.Native.Nat.{ℕ, _+_, _-_, _*_, _≤_, _<_}
 use native.Mathlib.Omega.{arith}
 use borrow.Author.Needs.{needs}
 use native.Mathlib.Nat.{le-trans, le-of-eq, mul-le-mul, lt-of-le-of-lt}
 use lib.Dec.{lit<}
 use Rattle.spec.specs.Words.{tab}
 use Rattle.laws.proofs.Lists.{getD-tab}
-use lib.ListN.{length, getD, take, drop, set, length-set}
+use lib.ListN.{getD}
 use Rattle.filter.proofs.card.square.Statement.{statement}
 use Rattle.filter.proofs.card.square.Tie as tie
-use Rattle.filter.proofs.card.square.Reads as reads
-use Rattle.filter.proofs.card.square.Lts as lts
 
 -- The rule of the table: at k stands (k + 1) times (k + 1) - 1. That the constant is this list is computed where its entry is read.
 rule : ℕ → ℕ
@@ -34,28 +34,22 @@ small c =
     let h : n ≤ 255 = omega (arith, c .before .fits .n .fits) in
     omega (arith, mul-le-mul h h)
 
--- src/card.rt:291:9
 returns : tie.Need-returns
 returns c = (ap (λ x. x * x - 1) (sym (c .if1 .taken)), search needs)
 
--- src/card.rt:293:13
 sub-k : tie.Need-sub-k
 sub-k c = search needs
 
--- src/card.rt:294:5
 mul-result : tie.Need-mul-result
 mul-result c = search needs
 
--- src/card.rt:294:5
 array-read-result : tie.Need-array-read-result
 array-read-result c = search needs
 
--- src/card.rt:294:5
 cast-result : tie.Need-cast-result
 unfolding table tab rule
 cast-result c = record { fits = lt-of-le-of-lt (le-trans (le-of-eq (entry c)) (small c)) (lit< tt) }
 
--- src/card.rt:287:1
 returns-2 : tie.Need-returns-2
 unfolding table tab rule
 returns-2 c = (entry c, le-trans (le-of-eq (entry c)) (small c))

@@ -1,51 +1,38 @@
-use mathlib.Core.Path.{_≡_, refl, sym, ap, ap₂, _∙_}
-use mathlib.Core.List.{List, [], _∷_, _++_}
-use Prim.Native.Nat.{ℕ, suc, _+_, _-_, _*_, _/_, _%_, _^_, _≤_, _<_, min}
+-- `filter::checks::measure` meets its contract: a recipe's checks go by its counts, its reaches and its weight held at its limit.
+-- Assumes nothing.
+use mathlib.Core.Path.{_≡_, refl, sym, ap₂, _∙_}
+use Prim.Native.Nat.{_+_, _^_, min}
 use native.Mathlib.Omega.{arith}
 use borrow.Author.Needs.{needs}
 use Rattle.spec.specs.Recipe.{recipe, widths, order, gain}
 use Rattle.spec.specs.Refusals.{tooLong}
-use Rattle.filter.specs.Measured.{verdictOf}
 use mathlib.Core.Bool.{false}
-use Rattle.filter.proofs.Refusal.{long-rows, long-columns, counts-short, gain-capped, short, refused-so, accepted-so}
-use lib.ListN.{length, getD, take, drop, set, length-set}
+use Rattle.filter.proofs.Refusal.{verdictOf, long-rows, long-columns, counts-short, gain-capped, short, refused-so, accepted-so}
 use Rattle.filter.proofs.checks.measure.Statement.{statement}
 use Rattle.filter.proofs.checks.measure.Tie as tie
-use Rattle.filter.proofs.checks.measure.Reads as reads
-use Rattle.filter.proofs.checks.measure.Lts as lts
-use Rattle.filter.proofs.checks.refused.Reads as refused-reads
-use Rattle.filter.proofs.checks.survey.Reads as survey-reads
-use Rattle.filter.proofs.checks.verdict.Reads as verdict-reads
 
--- src/checks.rt:101:9
 refused-requires : tie.Need-refused-requires
 refused-requires c κs = search needs
 
--- src/checks.rt:101:9
 returns : tie.Need-returns
 returns c =
     let f = c .before .before .before .before .before .args .filter in
-    rw (c .refused .ensures) (refused-so (recipe f) 1 (λ e. omega arith) (long-rows f (c .before .if1 .taken)))
+    c .refused .ensures ∙ (refused-so (recipe f) 1 (λ e. omega arith) (long-rows f (c .before .if1 .taken)))
 
--- src/checks.rt:104:9
 refused-requires-2 : tie.Need-refused-requires-2
 refused-requires-2 c κs = search needs
 
--- src/checks.rt:104:9
 returns-2 : tie.Need-returns-2
 returns-2 c =
     let f = c .before .before .before .before .before .before .before .args .filter in
-    rw (c .refused2 .ensures) (refused-so (recipe f) 1 (λ e. omega arith) (long-columns f (c .before .before .before .if1 .left) (c .before .if2 .taken)))
+    c .refused2 .ensures ∙ (refused-so (recipe f) 1 (λ e. omega arith) (long-columns f (c .before .before .before .if1 .left) (c .before .if2 .taken)))
 
--- src/checks.rt:106:9
 survey-requires : tie.Need-survey-requires
 survey-requires c κs = search needs
 
--- src/checks.rt:107:9
 survey-requires-2 : tie.Need-survey-requires-2
 survey-requires-2 c κs = search needs
 
--- src/checks.rt:108:9
 verdict-requires : tie.Need-verdict-requires
 verdict-requires c κs = search needs
 
@@ -62,31 +49,28 @@ known c =
     let both = c .before .survey2 .ensures in
     record {
       short = counts-short f (search needs) (search needs);
-      weight = gain-capped f (c .before .before .survey .result .gain) (c .before .survey2 .result .gain) (across .heavy) (both .heavy);
-      verdict = c .verdict .ensures ∙ ap₂ (λ a b. verdictOf a b (c .before .survey2 .result .gain)) (across .reach) (both .reach);
+      weight = gain-capped f (c .before .before .survey .result .gain) (c .before .survey2 .result .gain) (across .1) (both .1);
+      verdict = c .verdict .ensures ∙ ap₂ (λ a b. verdictOf a b (c .before .survey2 .result .gain)) (across .0) (both .0);
     }
 
--- src/checks.rt:110:9
 refused-requires-3 : tie.Need-refused-requires-3
 refused-requires-3 c κs = search needs
 
--- src/checks.rt:110:9
 returns-3 : tie.Need-returns-3
 unfolding recipe
 returns-3 c =
     let f = c .before .before .before .before .before .before .before .before .before .before .before .args .filter in
     let k = known (c .before .before) in
-    rw (c .refused3 .ensures)
-    (refused-so (recipe f) (c .before .before .verdict .result) (c .before .if3 .taken)
+    c .refused3 .ensures
+    ∙ (refused-so (recipe f) (c .before .before .verdict .result) (c .before .if3 .taken)
     (short (recipe f) (c .before .before .before .survey2 .result .gain) (k .short) (k .weight) ∙ sym (k .verdict)))
 
--- src/checks.rt:95:1
 returns-4 : tie.Need-returns-4
 unfolding recipe
 returns-4 c =
     let k = known (c .before) in
     accepted-so (recipe (c .before .before .before .before .before .before .before .before .before .before .args .filter)) _ refl (k .weight)
-    (c .before .before .before .survey .ensures .reach) (c .before .before .survey2 .ensures .reach) (k .short)
+    (c .before .before .before .survey .ensures .0) (c .before .before .survey2 .ensures .0) (k .short)
     (sym (k .verdict) ∙ c .if3 .left)
 
 pub measure-spec : {M : Type 1} → statement M

@@ -1,18 +1,16 @@
-use mathlib.Core.Path.{_≡_, refl, sym, ap, ap₂, _∙_}
-use mathlib.Core.List.{List, [], _∷_, _++_}
-use Prim.Native.Nat.{ℕ, suc, _+_, _-_, _*_, _/_, _%_, _^_, _≤_, _<_, min}
+-- `filter::checks::survey` meets its contract. After i widths the reach is the total over them, and the weight is the product over
+-- them, held at its limit.
+-- Assumes nothing.
+use mathlib.Core.Path.{_≡_, refl, ap, _∙_}
+use Prim.Native.Nat.{_+_, _-_, _*_, _^_, min}
 use native.Mathlib.Omega.{arith}
 use borrow.Author.Needs.{needs}
 use Rattle.spec.specs.Words.{product}
 use Rattle.spec.specs.Recipe.{order}
 use Rattle.filter.proofs.Widths.{Summed, summed-none, summed-more, summed-all, passed, capped-more}
-use lib.ListN.{length, getD, take, drop, set, length-set}
+use lib.ListN.{take}
 use Rattle.filter.proofs.checks.survey.Statement.{statement}
 use Rattle.filter.proofs.checks.survey.Tie as tie
-use Rattle.filter.proofs.checks.survey.Reads as reads
-use Rattle.filter.proofs.checks.survey.Lts as lts
-use Rattle.filter.proofs.checks.box_order.Reads as box-order-reads
-use Rattle.filter.proofs.checks.times.Reads as times-reads
 
 abbrev Inv-loop : tie.InvT-loop
 Inv-loop gain list count found₀ i₀ found i =
@@ -22,40 +20,31 @@ Inv-loop gain list count found₀ i₀ found i =
 abbrev μ-loop : tie.MeasureT-loop
 μ-loop gain list count found₀ i₀ found i = count - i
 
--- src/checks.rt:53:17
 cast-count : tie.Need-cast-count Inv-loop μ-loop
 cast-count c = search needs
 
--- src/checks.rt:56:5
 loop-holds : tie.Need-loop-holds Inv-loop μ-loop
 unfolding product
 loop-holds c = (summed-none (λ n. n - 1) 254 (c .args .t1) _ refl (search needs), search needs)
 
--- src/checks.rt:57:17
 element-copy-out-n : tie.Need-element-copy-out-n Inv-loop μ-loop
 element-copy-out-n c = search needs
 
--- src/checks.rt:58:24
 box-order-requires : tie.Need-box-order-requires Inv-loop μ-loop
 box-order-requires c κs = search needs
 
--- src/checks.rt:58:9
 add-found : tie.Need-add-found Inv-loop μ-loop
 add-found c = omega arith
 
--- src/checks.rt:59:9
 times-requires : tie.Need-times-requires Inv-loop μ-loop
 times-requires c κs = search needs
 
--- src/checks.rt:60:9
 add-i : tie.Need-add-i Inv-loop μ-loop
 add-i c = search needs
 
--- src/checks.rt:56:5
 loop-less : tie.Need-loop-less Inv-loop μ-loop
 loop-less c = search needs
 
--- src/checks.rt:56:5
 loop-again : tie.Need-loop-again Inv-loop μ-loop
 loop-again c =
     let start = c .before .before .before .before .before .before in
@@ -68,20 +57,17 @@ loop-again c =
           (omega (arith, s .counted, s .size)) (now .inv .1) (c .times .ensures),
     )
 
--- src/checks.rt:49:1
 returns : tie.Need-returns Inv-loop μ-loop
 unfolding order
 returns c =
     let start = c .before .before in
     let now = c .before .loop in
-    let list = start .args .t1 in
-    record {
-      reach = summed-all (λ n. n - 1) 254 list _ (now .i) (now .found .order) (now .inv .0) (c .loop-test .left) (start .pre .0);
-      heavy =
-          now .inv .1
+    let list = start .args .t1 in (
+      summed-all (λ n. n - 1) 254 list _ (now .i) (now .found .order) (now .inv .0) (c .loop-test .left) (start .pre .0),
+      now .inv .1
           ∙ ap (λ ws. min (start .args .gain * product ws) (2 ^ 44 + 1))
-          (passed (λ n. n - 1) 254 list _ (now .i) (now .inv .0) (c .loop-test .left) (start .pre .0));
-    }
+          (passed (λ n. n - 1) 254 list _ (now .i) (now .inv .0) (c .loop-test .left) (start .pre .0)),
+    )
 
 pub survey-spec : {M : Type 1} → statement M
 survey-spec =

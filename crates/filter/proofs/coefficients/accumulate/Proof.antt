@@ -1,6 +1,7 @@
-use mathlib.Core.Path.{_≡_, refl, sym, ap, ap₂, _∙_}
-use mathlib.Core.List.{List, [], _∷_, _++_}
-use Prim.Native.Nat.{ℕ, suc, _+_, _-_, _*_, _/_, _%_, _^_, _≤_, _<_}
+-- `filter::coefficients::accumulate` meets its contract: entries are written from the left, each the total so far.
+-- Assumes nothing.
+use mathlib.Core.Path.{_≡_, refl, ap, ap₂, _∙_}
+use Prim.Native.Nat.{_+_, _-_, _^_, _≤_}
 use native.Mathlib.Omega.{arith}
 use borrow.Author.Needs.{needs}
 use Rattle.spec.specs.Words.{sum}
@@ -10,11 +11,9 @@ use Rattle.laws.proofs.Kernels.{at}
 use Rattle.laws.proofs.Slices.{Rightwards, rightwards-none, rightwards-more, rightwards-all, mixed-back}
 use native.Mathlib.Nat.{le-refl, le-trans}
 use native.Mathlib.Numerals.{add-one}
-use lib.ListN.{length, getD, take, drop, set, length-set}
+use lib.ListN.{length, getD, length-set}
 use Rattle.filter.proofs.coefficients.accumulate.Statement.{statement}
 use Rattle.filter.proofs.coefficients.accumulate.Tie as tie
-use Rattle.filter.proofs.coefficients.accumulate.Reads as reads
-use Rattle.filter.proofs.coefficients.accumulate.Lts as lts
 
 abbrev Inv-loop : tie.InvT-loop
 Inv-loop out₀ total₀ k₀ k-end out total k =
@@ -24,16 +23,13 @@ Inv-loop out₀ total₀ k₀ k-end out total k =
 abbrev μ-loop : tie.MeasureT-loop
 μ-loop out₀ total₀ k₀ k-end out total k = k-end - k
 
--- src/coefficients.rt:31:5
 loop-holds : tie.Need-loop-holds Inv-loop μ-loop
 unfolding sum
 loop-holds c = (search needs, search needs, search needs, refl, rightwards-none (running (at (c .args .out .now))) _)
 
--- src/coefficients.rt:32:18
 mul-total : tie.Need-mul-total Inv-loop μ-loop
 mul-total c = search needs
 
--- src/coefficients.rt:32:18
 slice-read-total : tie.Need-slice-read-total Inv-loop μ-loop
 slice-read-total c = search needs
 
@@ -53,27 +49,21 @@ within c =
     let old = c .before .before .before .args .out .now in
     le-trans (sum-grows (at old) (turn .k + 1) (length old) (omega arith)) (c .before .before .before .pre)
 
--- src/coefficients.rt:32:9
 add-total : tie.Need-add-total Inv-loop μ-loop
 add-total c = omega (arith, entry c, within c)
 
--- src/coefficients.rt:33:9
 mul-out : tie.Need-mul-out Inv-loop μ-loop
 mul-out c = search needs
 
--- src/coefficients.rt:33:9
 slice-write-out : tie.Need-slice-write-out Inv-loop μ-loop
 slice-write-out c = search needs
 
--- src/coefficients.rt:31:9
 add-k : tie.Need-add-k Inv-loop μ-loop
 add-k c = search needs
 
--- src/coefficients.rt:31:5
 loop-less : tie.Need-loop-less Inv-loop μ-loop
 loop-less c = search needs
 
--- src/coefficients.rt:31:5
 loop-again : tie.Need-loop-again Inv-loop μ-loop
 unfolding running
 loop-again c =
@@ -86,11 +76,9 @@ loop-again c =
       rightwards-more (running (at old)) old _ (turn .inv .4) (search needs) (entry c ∙ ap (λ n. sum n (at old)) (add-one (turn .k))),
     )
 
--- src/coefficients.rt:26:1
 same-length : tie.Need-same-length Inv-loop μ-loop
 same-length c = search needs
 
--- src/coefficients.rt:26:1
 returns : tie.Need-returns Inv-loop μ-loop
 returns c =
     let old = c .before .before .args .out .now in

@@ -1,26 +1,21 @@
-use mathlib.Core.Path.{_≡_, refl, sym, ap, ap₂, _∙_}
-use mathlib.Core.List.{List, [], _∷_, _++_}
-use Prim.Native.Nat.{ℕ, suc, _+_, _-_, _*_, _/_, _%_, _^_, _≤_, _<_}
+-- `filter::coefficients::convolve` meets its contract. From the last width to the first, the slice holds the coefficients of the
+-- widths from i on.
+-- Assumes nothing.
+use mathlib.Core.Path.{_≡_, sym, ap, ap₂, _∙_}
+use mathlib.Core.List.{List, [], _∷_}
+use Prim.Native.Nat.{ℕ, suc, _-_, _^_, _≤_, _<_}
 use native.Mathlib.Omega.{arith}
 use borrow.Author.Needs.{needs}
-use Rattle.spec.specs.Words.{tab, product}
+use Rattle.spec.specs.Words.{tab, product, sum}
 use Rattle.spec.specs.Recipe.{widths, kernel}
 use Rattle.laws.proofs.Kernels.{at, Holds, at-kernel, kernel-sum, tab-holds, holds-tab, totals-rise, totals-box}
 use Rattle.laws.proofs.Lists.{product-back}
 use Rattle.laws.proofs.Sums.{sum-agree}
 use Rattle.filter.proofs.Widths.{length-widths, widths-from}
-use lib.ListN.{drop-of-length-le}
-use native.Mathlib.Nat.{le-refl, le-trans, le-of-eq}
-use Rattle.spec.specs.Words.{sum}
-use lib.ListN.{length, getD, take, drop, set, length-set}
+use lib.ListN.{drop-of-length-le, length, drop}
+use native.Mathlib.Nat.{le-trans, le-of-eq}
 use Rattle.filter.proofs.coefficients.convolve.Statement.{statement}
 use Rattle.filter.proofs.coefficients.convolve.Tie as tie
-use Rattle.filter.proofs.coefficients.convolve.Reads as reads
-use Rattle.filter.proofs.coefficients.convolve.Lts as lts
-use Rattle.filter.proofs.coefficients.accumulate.Reads as accumulate-reads
-use Rattle.filter.proofs.coefficients.difference.Reads as difference-reads
-use Rattle.filter.proofs.coefficients.impulse.Reads as impulse-reads
-use Rattle.filter.proofs.coefficients.wide.Reads as wide-reads
 
 abbrev Inv-loop : tie.InvT-loop
 Inv-loop out₀ list i₀ out i =
@@ -29,15 +24,12 @@ Inv-loop out₀ list i₀ out i =
 abbrev μ-loop : tie.MeasureT-loop
 μ-loop out₀ list i₀ out i = i
 
--- src/coefficients.rt:54:5
 impulse-requires : tie.Need-impulse-requires Inv-loop μ-loop
 impulse-requires c κs = search needs
 
--- src/coefficients.rt:55:17
 cast-i : tie.Need-cast-i Inv-loop μ-loop
 cast-i c = search needs
 
--- src/coefficients.rt:56:5
 loop-holds : tie.Need-loop-holds Inv-loop μ-loop
 loop-holds c =
     let list = c .before .before .before .before .before .args .t1 in
@@ -52,7 +44,6 @@ loop-holds c =
           ∙ ap (λ ws. at (kernel ws) k) (sym done),
     )
 
--- src/coefficients.rt:57:9
 sub-i : tie.Need-sub-i Inv-loop μ-loop
 sub-i c = search needs
 
@@ -63,33 +54,27 @@ bounded ws i out p q h =
     le-trans (le-of-eq (sum-agree (at out) (at (kernel (drop i ws))) (length out) h))
     (le-trans (kernel-sum (drop i ws) (length out)) (le-trans (product-back i ws p) q))
 
--- src/coefficients.rt:58:9
 accumulate-requires : tie.Need-accumulate-requires Inv-loop μ-loop
 accumulate-requires c κs =
     let turn = c .before .before .loop in
     let start = c .before .before .before .before .before .before .before .before in
     bounded (widths (start .args .t1)) (turn .i) (turn .out) (start .pre .1) (start .pre .2) (turn .inv .3)
 
--- src/coefficients.rt:59:30
 element-copy-out-wide : tie.Need-element-copy-out-wide Inv-loop μ-loop
 element-copy-out-wide c = search needs
 
--- src/coefficients.rt:59:25
 wide-requires : tie.Need-wide-requires Inv-loop μ-loop
 wide-requires c κs = search needs
 
--- src/coefficients.rt:59:9
 difference-requires : tie.Need-difference-requires Inv-loop μ-loop
 difference-requires c κs =
     let turn = c .before .before .before .before .before .before .before .before .loop in
     let list = c .before .before .before .before .before .before .before .before .before .before .before .before .before .before .args .t1 in
     totals-rise (at (kernel (drop (turn .i) (widths list)))) (turn .out) (turn .inv .3) _ (c .before .before .before .before .before .accumulate .ensures) (c .wide .result)
 
--- src/coefficients.rt:56:5
 loop-less : tie.Need-loop-less Inv-loop μ-loop
 loop-less c = search needs
 
--- src/coefficients.rt:56:5
 loop-again : tie.Need-loop-again Inv-loop μ-loop
 loop-again c =
     let turn = c .before .before .before .before .before .before .before .before .before .before .before .loop in
@@ -111,11 +96,9 @@ loop-again c =
           ∙ ap (λ ws. at (kernel ws) k) more,
     )
 
--- src/coefficients.rt:50:1
 same-length : tie.Need-same-length Inv-loop μ-loop
 same-length c = c .before .loop .inv .1 ∙ c .before .before .before .before .impulse .kept .0
 
--- src/coefficients.rt:50:1
 returns : tie.Need-returns Inv-loop μ-loop
 returns c =
     let turn = c .before .loop in

@@ -1,16 +1,15 @@
-use mathlib.Core.Path.{_≡_, refl, sym, ap, ap₂, _∙_}
-use mathlib.Core.List.{List, [], _∷_, _++_}
-use Prim.Native.Nat.{ℕ, suc, _+_, _-_, _*_, _/_, _%_, _^_, _≤_, _<_}
+-- `filter::coefficients::difference` meets its contract: entries are written from the right, so that what is read still stands.
+-- Assumes nothing.
+use mathlib.Core.Path.{_≡_, sym, ap₂, _∙_}
+use Prim.Native.Nat.{_+_, _-_, _≤_}
 use native.Mathlib.Omega.{arith}
 use borrow.Author.Needs.{needs}
 use Rattle.laws.proofs.Sequences.{behind, behind-within, behind-before}
 use Rattle.laws.proofs.Kernels.{at}
 use Rattle.laws.proofs.Slices.{Leftwards, leftwards-none, leftwards-more, leftwards-all, mixed-front}
-use lib.ListN.{length, getD, take, drop, set, length-set}
+use lib.ListN.{length, getD, length-set}
 use Rattle.filter.proofs.coefficients.difference.Statement.{statement}
 use Rattle.filter.proofs.coefficients.difference.Tie as tie
-use Rattle.filter.proofs.coefficients.difference.Reads as reads
-use Rattle.filter.proofs.coefficients.difference.Lts as lts
 
 abbrev Inv-loop : tie.InvT-loop
 Inv-loop out₀ n k₀ out k =
@@ -19,31 +18,24 @@ Inv-loop out₀ n k₀ out k =
 abbrev μ-loop : tie.MeasureT-loop
 μ-loop out₀ n k₀ out k = k
 
--- src/coefficients.rt:43:5
 loop-holds : tie.Need-loop-holds Inv-loop μ-loop
 loop-holds c = (search needs, search needs, leftwards-none (λ j. at (c .args .out .now) j - behind (at (c .args .out .now)) (c .args .n) j) _)
 
--- src/coefficients.rt:44:9
 sub-k : tie.Need-sub-k Inv-loop μ-loop
 sub-k c = search needs
 
--- src/coefficients.rt:45:18
 mul-out : tie.Need-mul-out Inv-loop μ-loop
 mul-out c = search needs
 
--- src/coefficients.rt:45:18
 slice-read-out : tie.Need-slice-read-out Inv-loop μ-loop
 slice-read-out c = search needs
 
--- src/coefficients.rt:45:31
 sub-out : tie.Need-sub-out Inv-loop μ-loop
 sub-out c = search needs
 
--- src/coefficients.rt:45:27
 mul-out-2 : tie.Need-mul-out-2 Inv-loop μ-loop
 mul-out-2 c = search needs
 
--- src/coefficients.rt:45:27
 slice-read-out-2 : tie.Need-slice-read-out-2 Inv-loop μ-loop
 slice-read-out-2 c = search needs
 
@@ -64,25 +56,20 @@ earlier c =
     mixed-front 0 (turn .inv .2) (turn .k - 1 - args .n) (omega arith)
     ∙ sym (behind-within (at (args .out .now)) (args .n) (turn .k - 1) (omega arith))
 
--- src/coefficients.rt:45:18
 sub-out-2 : tie.Need-sub-out-2 Inv-loop μ-loop
 sub-out-2 c =
     let turn = c .before .before .before .loop in
     omega (arith, here c, earlier c, c .before .before .before .before .pre (turn .k - 1) (omega arith))
 
--- src/coefficients.rt:45:9
 mul-out-3 : tie.Need-mul-out-3 Inv-loop μ-loop
 mul-out-3 c = search needs
 
--- src/coefficients.rt:45:9
 slice-write-out : tie.Need-slice-write-out Inv-loop μ-loop
 slice-write-out c = search needs
 
--- src/coefficients.rt:43:5
 loop-less : tie.Need-loop-less Inv-loop μ-loop
 loop-less c = search needs
 
--- src/coefficients.rt:43:5
 loop-again : tie.Need-loop-again Inv-loop μ-loop
 loop-again c =
     let turn = c .before .before .before .loop in
@@ -94,11 +81,9 @@ loop-again c =
           (rw e (turn .inv .2)) (ap₂ _-_ (here c) (earlier c)),
     )
 
--- src/coefficients.rt:38:1
 same-length : tie.Need-same-length Inv-loop μ-loop
 same-length c = search needs
 
--- src/coefficients.rt:38:1
 returns : tie.Need-returns Inv-loop μ-loop
 unfolding at
 returns c =

@@ -1,17 +1,17 @@
-use mathlib.Core.Path.{_≡_, refl, sym, ap, ap₂, _∙_}
-use mathlib.Core.List.{List, [], _∷_, _++_}
-use Prim.Native.Nat.{ℕ, suc, _+_, _-_, _*_, _/_, _%_, _^_, _≤_, _<_}
+-- `filter::coefficients::impulse` meets its contract: entries are written from the left.
+-- Assumes nothing.
+use mathlib.Core.Path.{_≡_, sym, _∙_}
+use mathlib.Core.List.{[]}
+use Prim.Native.Nat.{_-_, _≤_}
 use native.Mathlib.Omega.{arith}
 use borrow.Author.Needs.{needs}
 use Rattle.spec.specs.Recipe.{kernel}
 use Rattle.laws.proofs.Kernels.{at, impulse-start, impulse-later}
 use Rattle.laws.proofs.Slices.{Rightwards, rightwards-none, rightwards-more, rightwards-all}
 use mathlib.Core.Logic.{⊎-elim}
-use lib.ListN.{length, getD, take, drop, set, length-set}
+use lib.ListN.{length, length-set}
 use Rattle.filter.proofs.coefficients.impulse.Statement.{statement}
 use Rattle.filter.proofs.coefficients.impulse.Tie as tie
-use Rattle.filter.proofs.coefficients.impulse.Reads as reads
-use Rattle.filter.proofs.coefficients.impulse.Lts as lts
 
 abbrev Inv-loop : tie.InvT-loop
 Inv-loop out₀ k₀ k-end out k =
@@ -20,27 +20,21 @@ Inv-loop out₀ k₀ k-end out k =
 abbrev μ-loop : tie.MeasureT-loop
 μ-loop out₀ k₀ k-end out k = k-end - k
 
--- src/coefficients.rt:20:5
 loop-holds : tie.Need-loop-holds Inv-loop μ-loop
 loop-holds c = (search needs, search needs, search needs, rightwards-none (at (kernel [])) _)
 
--- src/coefficients.rt:21:9
 mul-out : tie.Need-mul-out Inv-loop μ-loop
 mul-out c = search needs
 
--- src/coefficients.rt:21:9
 slice-write-out : tie.Need-slice-write-out Inv-loop μ-loop
 slice-write-out c = search needs
 
--- src/coefficients.rt:20:9
 add-k : tie.Need-add-k Inv-loop μ-loop
 add-k c = search needs
 
--- src/coefficients.rt:20:5
 loop-less : tie.Need-loop-less Inv-loop μ-loop
 loop-less c = search needs
 
--- src/coefficients.rt:20:5
 loop-again : tie.Need-loop-again Inv-loop μ-loop
 loop-again c =
     let start = c .before .before .before in
@@ -52,11 +46,9 @@ loop-again c =
           (⊎-elim (λ w. w .1 ∙ sym (impulse-start (turn .k) (w .0 .taken))) (λ w. w .1 ∙ sym (impulse-later (turn .k) (w .0 .left))) (c .if1 .came)),
     )
 
--- src/coefficients.rt:17:1
 same-length : tie.Need-same-length Inv-loop μ-loop
 same-length c = search needs
 
--- src/coefficients.rt:17:1
 returns : tie.Need-returns Inv-loop μ-loop
 returns c = rightwards-all (at (kernel [])) (c .before .before .args .out .now) (c .before .loop .inv .3) (omega arith)
 

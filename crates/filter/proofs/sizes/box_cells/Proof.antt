@@ -1,27 +1,20 @@
-use mathlib.Core.Path.{_≡_, refl, sym, ap, ap₂, _∙_}
-use mathlib.Core.List.{List, [], _∷_, _++_}
-use Prim.Native.Nat.{ℕ, suc, _+_, _-_, _*_, _/_, _%_, _^_, _≤_, _<_}
+-- `filter::sizes::box_cells` meets its contract, by the tests on the way.
+-- Assumes nothing.
 use native.Mathlib.Omega.{arith}
 use borrow.Author.Needs.{needs}
 use borrow.Author.Tests.{lt-ltb, le-ltb, eq-eqb, ne-eqb}
 use Rattle.spec.specs.Stream.{boxCells}
-use lib.ListN.{length, getD, take, drop, set, length-set}
 use Rattle.filter.proofs.sizes.box_cells.Statement.{statement}
 use Rattle.filter.proofs.sizes.box_cells.Tie as tie
-use Rattle.filter.proofs.sizes.box_cells.Reads as reads
-use Rattle.filter.proofs.sizes.box_cells.Lts as lts
 
--- src/sizes.rt:54:1
 returns : tie.Need-returns
 unfolding boxCells
 returns c = (simp (lt-ltb _ _ (c .if1 .taken)), search needs)
 
--- src/sizes.rt:54:1
 returns-2 : tie.Need-returns-2
 unfolding boxCells
 returns-2 c = (simp (le-ltb _ _ (c .before .if1 .left), eq-eqb _ _ (c .if2 .taken)), search needs)
 
--- src/sizes.rt:54:1
 returns-3 : tie.Need-returns-3
 unfolding boxCells
 returns-3 c = (simp (le-ltb _ _ (c .before .if1 .left), ne-eqb _ _ (c .if2 .left)), omega (arith, c .before .before .fits .n .fits))

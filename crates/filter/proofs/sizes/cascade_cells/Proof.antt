@@ -1,16 +1,13 @@
-use mathlib.Core.Path.{_≡_, refl, sym, ap, ap₂, _∙_}
-use mathlib.Core.List.{List, [], _∷_, _++_}
-use Prim.Native.Nat.{ℕ, suc, _+_, _-_, _*_, _/_, _%_, _^_, _≤_, _<_}
+-- `filter::sizes::cascade_cells` meets its contract: after i widths the cells are the total over them.
+-- Assumes nothing.
+use mathlib.Core.Path.{refl}
+use Prim.Native.Nat.{_-_}
 use native.Mathlib.Omega.{arith}
 use borrow.Author.Needs.{needs}
 use Rattle.spec.specs.Stream.{boxCells}
 use Rattle.filter.proofs.Widths.{Summed, summed-none, summed-more, summed-all}
-use lib.ListN.{length, getD, take, drop, set, length-set}
 use Rattle.filter.proofs.sizes.cascade_cells.Statement.{statement}
 use Rattle.filter.proofs.sizes.cascade_cells.Tie as tie
-use Rattle.filter.proofs.sizes.cascade_cells.Reads as reads
-use Rattle.filter.proofs.sizes.cascade_cells.Lts as lts
-use Rattle.filter.proofs.sizes.box_cells.Reads as box-cells-reads
 
 abbrev Inv-loop : tie.InvT-loop
 Inv-loop list count cells₀ i₀ cells i = Summed boxCells 255 list count i cells
@@ -18,35 +15,27 @@ Inv-loop list count cells₀ i₀ cells i = Summed boxCells 255 list count i cel
 abbrev μ-loop : tie.MeasureT-loop
 μ-loop list count cells₀ i₀ cells i = count - i
 
--- src/sizes.rt:71:17
 cast-count : tie.Need-cast-count Inv-loop μ-loop
 cast-count c = search needs
 
--- src/sizes.rt:74:5
 loop-holds : tie.Need-loop-holds Inv-loop μ-loop
 loop-holds c = summed-none boxCells 255 (c .args .t1) _ refl (search needs)
 
--- src/sizes.rt:75:28
 element-copy-out-box-cells : tie.Need-element-copy-out-box-cells Inv-loop μ-loop
 element-copy-out-box-cells c = search needs
 
--- src/sizes.rt:75:18
 box-cells-requires : tie.Need-box-cells-requires Inv-loop μ-loop
 box-cells-requires c κs = search needs
 
--- src/sizes.rt:75:9
 add-cells : tie.Need-add-cells Inv-loop μ-loop
 add-cells c = search needs
 
--- src/sizes.rt:76:9
 add-i : tie.Need-add-i Inv-loop μ-loop
 add-i c = search needs
 
--- src/sizes.rt:74:5
 loop-less : tie.Need-loop-less Inv-loop μ-loop
 loop-less c = search needs
 
--- src/sizes.rt:74:5
 loop-again : tie.Need-loop-again Inv-loop μ-loop
 loop-again c =
     let start = c .before .before .before .before in
@@ -54,7 +43,6 @@ loop-again c =
     summed-more boxCells 255 (start .args .t1) _ (now .i) (now .cells) (c .box-cells .result) (now .inv) (search needs) (start .pre)
     (c .box-cells .ensures .0) (c .box-cells .ensures .1)
 
--- src/sizes.rt:67:1
 returns : tie.Need-returns Inv-loop μ-loop
 returns c =
     let start = c .before .before in

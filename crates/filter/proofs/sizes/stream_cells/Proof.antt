@@ -1,47 +1,37 @@
-use mathlib.Core.Path.{_≡_, refl, sym, ap, ap₂, _∙_}
-use mathlib.Core.List.{List, [], _∷_, _++_}
-use Prim.Native.Nat.{ℕ, suc, _+_, _-_, _*_, _/_, _%_, _^_, _≤_, _<_}
+-- `filter::sizes::stream_cells` meets its contract: the recipe's checks first, then 5, then the cells of both cascades.
+-- Assumes nothing.
+use mathlib.Core.Path.{_≡_, sym, ap, ap₂, _∙_}
+use Prim.Native.Nat.{ℕ, _+_, _*_, _≤_}
 use native.Mathlib.Omega.{arith}
 use borrow.Author.Needs.{needs}
 use mathlib.Core.Bool.{cond, false}
 use Rattle.spec.specs.Recipe.{recipe}
-use Rattle.spec.specs.Refusals.{badSide, cellChecks}
+use Rattle.spec.specs.Refusals.{badSide, cellChecks, Answer, accepted as accepted-as}
 use Rattle.laws.proofs.Refusals.{answer-refused, answer-accepted, good-side}
 use Rattle.filter.proofs.Refusal.{Known, known, known-counts, measured-refused, measured-then}
 use native.Mathlib.Nat.{mul-le-mul}
 use Rattle.spec.specs.Picture.{fullWidth}
 use Rattle.spec.specs.Stream.{streamCells}
-use Rattle.spec.specs.Refusals.{Answer, accepted as accepted-as}
-use lib.ListN.{length, getD, take, drop, set, length-set}
 use Rattle.filter.proofs.sizes.stream_cells.Statement.{statement}
 use Rattle.filter.proofs.sizes.stream_cells.Tie as tie
-use Rattle.filter.proofs.sizes.stream_cells.Reads as reads
-use Rattle.filter.proofs.sizes.stream_cells.Lts as lts
-use Rattle.filter.proofs.checks.measure.Reads as measure-reads
-use Rattle.filter.proofs.sizes.bad_side.Reads as bad-side-reads
-use Rattle.filter.proofs.sizes.cascade_cells.Reads as cascade-cells-reads
 
--- src/sizes.rt:88:9
 measure-requires : tie.Need-measure-requires
 measure-requires c κs = search needs
 
--- src/sizes.rt:91:9
 returns : tie.Need-returns
 unfolding cellChecks
 returns c =
-    sym (answer-refused _ _ _ (measured-refused (c .before .measure .ensures) _ (c .if1 .taken)) (c .if1 .taken))
+    sym (answer-refused _ _ _ (measured-refused _ _ (c .before .measure .ensures) _ (c .if1 .taken)) (c .if1 .taken))
 
--- src/sizes.rt:93:8
 bad-side-requires : tie.Need-bad-side-requires
 bad-side-requires c κs = search needs
 
--- src/sizes.rt:94:9
 returns-2 : tie.Need-returns-2
 unfolding cellChecks
 returns-2 c =
     let now = c .before .before in
     sym (answer-refused _ _ 5
-    (measured-then (now .before .measure .ensures) (now .if1 .left) _ 5 ∙ ap (λ b. cond b 5 0) (sym (c .before .bad-side .ensures) ∙ c .if2 .taken))
+    (measured-then _ _ (now .before .measure .ensures) (now .if1 .left) _ 5 ∙ ap (λ b. cond b 5 0) (sym (c .before .bad-side .ensures) ∙ c .if2 .taken))
     (λ e. omega arith))
 
 -- what is known of an accepted recipe and an accepted width
@@ -49,13 +39,11 @@ accepted : (c : tie.Else2) → let now = c .before .before .before in
     Known (recipe (now .before .args .filter)) (now .measure .result) × (badSide (now .before .args .width) ≡ false)
 accepted c =
     let now = c .before .before .before in
-    (known (now .measure .ensures) (c .before .before .if1 .left), sym (c .before .bad-side .ensures) ∙ c .if2 .left)
+    (known _ _ (now .measure .ensures) (c .before .before .if1 .left), sym (c .before .bad-side .ensures) ∙ c .if2 .left)
 
--- src/sizes.rt:96:9
 cascade-cells-requires : tie.Need-cascade-cells-requires
 cascade-cells-requires c κs = known-counts _ (accepted c .0) .0
 
--- src/sizes.rt:97:9
 cascade-cells-requires-2 : tie.Need-cascade-cells-requires-2
 cascade-cells-requires-2 c κs = known-counts _ (accepted (c .before) .0) .1
 
@@ -68,19 +56,15 @@ wide c =
 few : (a b : ℕ) → a ≤ 1279 → b ≤ 255 * 48 → a * b ≤ 1279 * (255 * 48)
 few a b h k = mul-le-mul h k
 
--- src/sizes.rt:98:27
 add-t9 : tie.Need-add-t9
 add-t9 c = omega (arith, wide (c .before .before .before))
 
--- src/sizes.rt:98:26
 mul-t10 : tie.Need-mul-t10
 mul-t10 c = omega (arith, few _ _ (wide (c .before .before .before)) (c .before .cascade-cells2 .ensures .1))
 
--- src/sizes.rt:98:19
 add-t11 : tie.Need-add-t11
 add-t11 c = omega (arith, few _ _ (wide (c .before .before .before)) (c .before .cascade-cells2 .ensures .1), c .before .before .cascade-cells .ensures .1)
 
--- src/sizes.rt:85:1
 returns-3 : tie.Need-returns-3
 unfolding cellChecks streamCells fullWidth recipe
 returns-3 c =
@@ -91,7 +75,7 @@ returns-3 c =
     let told : ℕ → ℕ → ℕ → Answer ℕ = λ a b d. accepted-as (a + (w + b) * d) in
     ap₂ (λ a b. told a b (c .before .cascade-cells2 .result)) (c .before .before .cascade-cells .ensures .0) (k .0 .rowReach)
     ∙ ap (told _ _) (c .before .cascade-cells2 .ensures .0)
-    ∙ sym (answer-accepted _ _ (measured-then (now .measure .ensures) (e .before .before .if1 .left) _ 5 ∙ ap (λ b. cond b 5 0) (k .1)))
+    ∙ sym (answer-accepted _ _ (measured-then _ _ (now .measure .ensures) (e .before .before .if1 .left) _ 5 ∙ ap (λ b. cond b 5 0) (k .1)))
 
 pub stream-cells-spec : {M : Type 1} → statement M
 stream-cells-spec =
