@@ -1,6 +1,7 @@
 -- `filter::card::moments` meets its contract: the recipe's checks, then the five values.
 -- Assumes nothing.
 use mathlib.Core.Path.{sym, _∙_}
+use native.Mathlib.Omega.{arith}
 use borrow.Author.Needs.{needs}
 use Rattle.spec.specs.Recipe.{recipe}
 use Rattle.laws.proofs.Refusals.{answer-refused, answer-accepted}
@@ -17,10 +18,10 @@ returns : tie.Need-returns
 returns c = sym (answer-refused _ _ _ (sym (number-is _ _ (c .before .measure .ensures))) (c .if1 .taken))
 
 variance-requires : tie.Need-variance-requires
-variance-requires c κs = known-counts _ (known _ _ (c .before .measure .ensures) (c .if1 .left)) .0
+variance-requires c κs = omega (arith, known-counts _ (known _ _ (c .before .measure .ensures) (c .if1 .left)))
 
 variance-requires-2 : tie.Need-variance-requires-2
-variance-requires-2 c κs = known-counts _ (known _ _ (c .before .before .measure .ensures) (c .before .if1 .left)) .1
+variance-requires-2 c κs = omega (arith, known-counts _ (known _ _ (c .before .before .measure .ensures) (c .before .if1 .left)))
 
 returns-2 : tie.Need-returns-2
 unfolding recipe scaleCard

@@ -1,0 +1,100 @@
+//! Safe wrapper over the static library bore_c: the bore wall picture filter
+//! of document 01.
+//!
+//! Every call returns document 01's refusal number, 0 where it is accepted,
+//! and writes its values to what the caller lends. A refused call writes
+//! nothing. To add a call, declare it in `raw` and give it a function here.
+
+#![deny(unsafe_code)]
+
+mod raw;
+
+/// The widths of one axis (document 01: a row list or a column list). Only the
+/// first `count` of the 48 bytes have a meaning; a count above 48 is refused.
+#[derive(Clone, Copy, Debug)]
+pub struct Cascade {
+    pub count: u8,
+    pub widths: [u8; 48],
+}
+
+/// The widths of both axes (document 01: a recipe).
+#[derive(Clone, Copy, Debug)]
+pub struct Filter {
+    pub rows: Cascade,
+    pub columns: Cascade,
+}
+
+/// Gain, orders and variances of a filter (document 01: the scale card with
+/// weight, reaches and variances).
+#[derive(Clone, Copy, Debug, Default, PartialEq)]
+pub struct Moments {
+    pub gain: u64,
+    pub row_order: usize,
+    pub column_order: usize,
+    pub row_variance: f64,
+    pub column_variance: f64,
+}
+
+/// Whether a filter is accepted; refusals 1 to 4.
+pub fn check(filter: &Filter) -> u8 {
+    let Filter { rows, columns } = filter;
+    raw::bore_check(rows.count, &rows.widths, columns.count, &columns.widths)
+}
+
+/// The coefficients of one cascade, into an output of exactly its order + 1;
+/// refusals 1 to 4 of the cascade as a filter of its own, then 7.
+pub fn kernel(cascade: &Cascade, out: &mut [u64]) -> u8 {
+    raw::kernel(cascade.count, &cascade.widths, out)
+}
+
+/// The sides of the full convolution (document 01: the grown picture);
+/// refusals 1 to 5.
+pub fn full_size(
+    filter: &Filter,
+    width: usize,
+    height: usize,
+    full_width: &mut usize,
+    full_height: &mut usize,
+) -> u8 {
+    let Filter { rows, columns } = filter;
+    raw::bore_full_size(
+        rows.count,
+        &rows.widths,
+        columns.count,
+        &columns.widths,
+        width,
+        height,
+        full_width,
+        full_height,
+    )
+}
+
+/// The work cells that the stream (document 01: the one pass) needs for a
+/// picture of this width; refusals 1 to 5, 5 for the width alone.
+pub fn stream_cells(filter: &Filter, width: usize, cells: &mut usize) -> u8 {
+    let Filter { rows, columns } = filter;
+    raw::bore_stream_cells(
+        rows.count,
+        &rows.widths,
+        columns.count,
+        &columns.widths,
+        width,
+        cells,
+    )
+}
+
+/// The moments of a filter; refusals 1 to 4.
+pub fn moments(filter: &Filter, moments: &mut Moments) -> u8 {
+    let Filter { rows, columns } = filter;
+    raw::bore_moments(
+        rows.count,
+        &rows.widths,
+        columns.count,
+        &columns.widths,
+        &mut moments.gain,
+        &mut moments.row_order,
+        &mut moments.column_order,
+        &mut moments.row_variance,
+        &mut moments.column_variance,
+    )
+}

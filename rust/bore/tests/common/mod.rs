@@ -1,0 +1,273 @@
+//! What the comparison tests share: the change from the library's form of a
+//! filter to the reference's, many random filters near all limits, and in
+//! `agree` the comparison of each call with the reference.
+//!
+//! The environment sets the random cases: BORE_CASES is their number for each
+//! test, BORE_SEED the seed of the first; each case has the next seed.
+
+// Each test file uses a part of this one.
+#![allow(dead_code)]
+
+pub mod agree;
+
+use bore::{Cascade, Filter};
+use reference::random::Random;
+use reference::Recipe;
+
+/// The random cases of each test when BORE_CASES is not set.
+const CASES: u64 = 100_000;
+
+/// A number set in the environment.
+fn set_number(name: &str) -> Option<u64> {
+    let text = std::env::var(name).ok()?;
+    Some(text.parse().expect("the variable holds a whole number"))
+}
+
+/// The list that a cascade stands for. A list longer than 48 has zeros past
+/// its 48th entry: the reference refuses it whatever they are.
+pub fn list_of(cascade: &Cascade) -> Vec<u8> {
+    let mut list = cascade.widths.to_vec();
+    list.resize(usize::from(cascade.count), 0);
+    list
+}
+
+/// The reference's form of a filter.
+pub fn recipe_of(filter: &Filter) -> Recipe {
+    Recipe {
+        rows: list_of(&filter.rows),
+        columns: list_of(&filter.columns),
+    }
+}
+
+/// A list in the library's form, zeros past its end.
+pub fn cascade(list: &[u8]) -> Cascade {
+    let mut widths = list.to_vec();
+    widths.resize(48, 0);
+    Cascade {
+        count: u8::try_from(list.len()).expect("a count is a byte"),
+        widths: widths.try_into().expect("there are 48 widths"),
+    }
+}
+
+/// Two lists in the library's form, zeros past their ends.
+pub fn filter(rows: &[u8], columns: &[u8]) -> Filter {
+    Filter {
+        rows: cascade(rows),
+        columns: cascade(columns),
+    }
+}
+
+/// A filter, and a twin that differs from it only past the counts. Whatever is
+/// asked about one has to be answered alike for the other.
+#[derive(Debug)]
+pub struct Case {
+    /// The seed of a random case; 0 for a fixed one.
+    pub seed: u64,
+    pub filter: Filter,
+    pub twin: Filter,
+}
+
+impl Case {
+    /// The random case of a seed, and its generator for further choices.
+    pub fn random(seed: u64) -> (Case, Random) {
+        let mut random = Random::new(seed);
+        let filter = any_filter(&mut random);
+        let twin = refilled(&mut random, &filter);
+        (Case { seed, filter, twin }, random)
+    }
+
+    /// The case of a given filter.
+    pub fn fixed(random: &mut Random, filter: Filter) -> Case {
+        let twin = refilled(random, &filter);
+        Case {
+            seed: 0,
+            filter,
+            twin,
+        }
+    }
+
+    pub fn recipe(&self) -> Recipe {
+        recipe_of(&self.filter)
+    }
+
+    /// The filter and its twin.
+    pub fn both(&self) -> [&Filter; 2] {
+        [&self.filter, &self.twin]
+    }
+
+    /// The cascade of the rows and its twin, then those of the columns.
+    pub fn axes(&self) -> [[&Cascade; 2]; 2] {
+        let [filter, twin] = self.both();
+        [[&filter.rows, &twin.rows], [&filter.columns, &twin.columns]]
+    }
+}
+
+/// Runs a comparison on every random case.
+pub fn each_case(mut compare: impl FnMut(&Case, &mut Random)) {
+    let first = set_number("BORE_SEED").unwrap_or(0);
+    let cases = set_number("BORE_CASES").unwrap_or(CASES);
+    for seed in first..first + cases {
+        let (case, mut random) = Case::random(seed);
+        compare(&case, &mut random);
+    }
+}
+
+/// Fills what stands past the count: all bytes random, or all 0, or all 255.
+fn refill(random: &mut Random, cascade: &mut Cascade) {
+    let kind = random.between(0, 7);
+    for n in cascade.widths.iter_mut().skip(usize::from(cascade.count)) {
+        *n = match kind {
+            0 => 0,
+            1 => 255,
+            _ => random.word() as u8,
+        };
+    }
+}
+
+pub fn refilled(random: &mut Random, filter: &Filter) -> Filter {
+    let mut filter = *filter;
+    refill(random, &mut filter.rows);
+    refill(random, &mut filter.columns);
+    filter
+}
+
+/// A filter that is valid, at a limit, or beyond one or several.
+fn any_filter(random: &mut Random) -> Filter {
+    let recipe = match random.between(0, 9) {
+        0..=2 => random.valid_recipe(255),
+        3..=5 => random.damaged_recipe(),
+        6..=7 => heavy_recipe(random),
+        _ => Recipe {
+            rows: any_list(random),
+            columns: any_list(random),
+        },
+    };
+    let mut filter = refilled(random, &filter(&recipe.rows, &recipe.columns));
+    if random.between(0, 3) == 0 {
+        damage(random, &mut filter);
+    }
+    filter
+}
+
+/// Changes the count or a byte on one axis.
+fn damage(random: &mut Random, filter: &mut Filter) {
+    let cascade = if random.coin() {
+        &mut filter.rows
+    } else {
+        &mut filter.columns
+    };
+    let any = random.word() as u8;
+    if random.coin() {
+        cascade.count = random.one_of(&[0, 1, 47, 48, 49, 50, 255, any]);
+    } else {
+        cascade.widths[random.between(0, 47)] = random.one_of(&[0, 1, 2, 255, any]);
+    }
+}
+
+/// Widths whose product is 2^44 - 306,016.
+pub const BELOW: [u8; 16] = [2, 2, 2, 2, 2, 3, 5, 5, 7, 13, 13, 13, 17, 23, 23, 53];
+
+/// Widths whose product is 2^44 + 11,952.
+pub const ABOVE: [u8; 14] = [2, 2, 2, 2, 7, 7, 7, 11, 11, 17, 17, 29, 29, 109];
+
+/// Widths whose product is 10,593,851,408,384 and 66,301 times 2^64: taken
+/// modulo 2^64 it would be accepted.
+pub const WRAPPED: [u8; 24] = [
+    2, 4, 4, 7, 8, 8, 9, 9, 9, 11, 11, 11, 11, 12, 12, 12, 13, 15, 15, 16, 17, 17, 18, 19,
+];
+
+/// Equal widths, a width and how often it comes: products about 2^44, of 2^64,
+/// of 2^128 and above.
+pub const EQUAL: [(u8, usize); 17] = [
+    (2, 43),
+    (2, 44),
+    (2, 45),
+    (4, 22),
+    (4, 23),
+    (16, 11),
+    (16, 12),
+    (2, 63),
+    (2, 64),
+    (2, 96),
+    (4, 32),
+    (16, 16),
+    (4, 64),
+    (16, 32),
+    (3, 96),
+    (4, 96),
+    (6, 96),
+];
+
+/// Widths with a weight near 2^44 or one that passes 64 or 128 bits, in any
+/// order, cut into two lists of at most 48.
+fn heavy_recipe(random: &mut Random) -> Recipe {
+    let widths = match random.between(0, 7) {
+        0 => BELOW.to_vec(),
+        1 => ABOVE.to_vec(),
+        2 => WRAPPED.to_vec(),
+        _ => {
+            let (n, times) = random.one_of(&EQUAL);
+            vec![n; times]
+        }
+    };
+    let rows = shuffled(random, &widths);
+    let fewest = rows.len().saturating_sub(48);
+    let most = rows.len().min(48);
+    let middle = rows.len() / 2;
+    let any = random.between(fewest, most);
+    let cut = random.one_of(&[fewest, most, middle, any]);
+    Recipe::new(&rows[..cut], &rows[cut..])
+}
+
+pub fn shuffled(random: &mut Random, list: &[u8]) -> Vec<u8> {
+    let mut out = Vec::new();
+    for &n in list {
+        out.insert(random.between(0, out.len()), n);
+    }
+    out
+}
+
+/// Widths to draw lists from.
+const DRAWN: [&[u8]; 11] = [
+    &[1],
+    &[2],
+    &[1, 2],
+    &[1, 2, 3],
+    &[1, 1, 1, 1, 1, 1, 2, 4, 9],
+    &[2, 4],
+    &[4, 5, 6, 7],
+    &[0, 1, 2],
+    &[0],
+    &[1, 1, 1, 255],
+    &[254, 255],
+];
+
+/// One list alone, made without regard to the other axis.
+fn any_list(random: &mut Random) -> Vec<u8> {
+    let any = random.between(0, 60);
+    match random.between(0, 3) {
+        0 => {
+            let wanted = random.one_of(&[254, 255, 256, 257]);
+            let most = random.one_of(&[10, 40, 254]);
+            list_of_reach(random, wanted, most)
+        }
+        1 => vec![random.word() as u8; any],
+        _ => {
+            let length = random.one_of(&[0, 1, 2, 3, 8, 47, 48, 49, 255, any]);
+            let from = random.one_of(&DRAWN);
+            (0..length).map(|_| random.one_of(from)).collect()
+        }
+    }
+}
+
+/// A list with exactly this reach, of widths up to `most` + 1.
+pub fn list_of_reach(random: &mut Random, wanted: usize, most: usize) -> Vec<u8> {
+    let mut list = Vec::new();
+    let mut rest = wanted;
+    while rest > 0 {
+        let part = random.between(1, rest.min(most));
+        list.push((part + 1) as u8);
+        rest -= part;
+    }
+    list
+}

@@ -1,0 +1,178 @@
+//! Rounding to greys, the same-size blur, the difference of two recipes and
+//! the reading at one place.
+
+use crate::picture::{check_picture, grown_size, Picture};
+use crate::recipe::{accepted_weight, check, coefficients_of, reach, weight, Recipe, MOST_WEIGHT};
+
+/// (sum + weight / 2) / weight, both divisions downwards, for a sum of at most
+/// 255 times the weight.
+pub fn grey(sum: u64, weight: u64) -> u8 {
+    let half = u128::from(weight) / 2;
+    let rounded = (u128::from(sum) + half) / u128::from(weight);
+    u8::try_from(rounded).expect("the sum is at most 255 times the weight")
+}
+
+/// The greys of a row of sums: refusals 1 to 4, then 7 for an output of another
+/// length than the row, then 11 for a sum above 255 times the weight.
+pub fn round_row(recipe: &Recipe, sums: &[u64], out_len: usize) -> Result<Vec<u8>, u8> {
+    check(recipe)?;
+    if out_len != sums.len() {
+        return Err(7);
+    }
+    let most = 255 * weight(recipe);
+    if sums.iter().any(|&sum| u128::from(sum) > most) {
+        return Err(11);
+    }
+    let weight = accepted_weight(recipe);
+    Ok(sums.iter().map(|&sum| grey(sum, weight)).collect())
+}
+
+/// The exact sum that the same-size blur takes for picture place (x, y), from
+/// the row coefficients `r` and the column coefficients `c`.
+fn same_size_sum(picture: &Picture, r: &[u64], c: &[u64], x: usize, y: usize) -> u64 {
+    let rx = r.len() - 1;
+    let ry = c.len() - 1;
+    picture.sum(r, c, x + rx / 2, y + ry / 2)
+}
+
+/// The sums that the same-size blur takes, row by row.
+fn same_size_sums(recipe: &Recipe, w: usize, h: usize, pixels: &[u8]) -> Vec<u64> {
+    let r = coefficients_of(&recipe.rows);
+    let c = coefficients_of(&recipe.columns);
+    let picture = Picture { w, h, pixels };
+    let mut sums = Vec::new();
+    for y in 0..h {
+        for x in 0..w {
+            sums.push(same_size_sum(&picture, &r, &c, x, y));
+        }
+    }
+    sums
+}
+
+/// The work cells of the same-size blur: twice the grown size; refusals 1 to 5.
+pub fn same_size_cells(recipe: &Recipe, w: usize, h: usize) -> Result<usize, u8> {
+    Ok(2 * grown_size(recipe, w, h)?)
+}
+
+/// The same-size blur: refusals 1 to 8.
+pub fn same_size_blur(
+    recipe: &Recipe,
+    w: usize,
+    h: usize,
+    pixels: &[u8],
+    out_len: usize,
+    cells_len: usize,
+) -> Result<Vec<u8>, u8> {
+    check_picture(recipe, w, h, pixels.len())?;
+    if out_len != w * h {
+        return Err(7);
+    }
+    if cells_len < same_size_cells(recipe, w, h)? {
+        return Err(8);
+    }
+    let weight = accepted_weight(recipe);
+    let sums = same_size_sums(recipe, w, h, pixels);
+    Ok(sums.into_iter().map(|sum| grey(sum, weight)).collect())
+}
+
+/// The work cells of a difference: twice both grown sizes together; the
+/// refusals 1 to 4 of `a`, those of `b`, then 5.
+pub fn difference_cells(a: &Recipe, b: &Recipe, w: usize, h: usize) -> Result<usize, u8> {
+    check(a)?;
+    check(b)?;
+    Ok(2 * (grown_size(a, w, h)? + grown_size(b, w, h)?))
+}
+
+/// Refusals 12 and 13 of a difference of two accepted recipes.
+fn check_pair(a: &Recipe, b: &Recipe) -> Result<(), u8> {
+    let rows_agree = reach(&a.rows) % 2 == reach(&b.rows) % 2;
+    let columns_agree = reach(&a.columns) % 2 == reach(&b.columns) % 2;
+    if !rows_agree || !columns_agree {
+        return Err(12);
+    }
+    if weight(a) * weight(b) > MOST_WEIGHT {
+        return Err(13);
+    }
+    Ok(())
+}
+
+/// The quotient rounded to the nearest whole number, a half away from zero.
+fn nearest(numerator: i128, denominator: i128) -> i128 {
+    let size = (2 * numerator.abs() + denominator) / (2 * denominator);
+    size * numerator.signum()
+}
+
+/// The difference of recipes `a` and `b` on one picture: the refusals 1 to 4 of
+/// `a`, those of `b`, then 5, 6, 7, 8, 12, 13.
+pub fn difference(
+    a: &Recipe,
+    b: &Recipe,
+    w: usize,
+    h: usize,
+    pixels: &[u8],
+    out_len: usize,
+    cells_len: usize,
+) -> Result<Vec<i16>, u8> {
+    check(a)?;
+    check(b)?;
+    check_picture(a, w, h, pixels.len())?;
+    if out_len != w * h {
+        return Err(7);
+    }
+    if cells_len < difference_cells(a, b, w, h)? {
+        return Err(8);
+    }
+    check_pair(a, b)?;
+    let weight_a = i128::from(accepted_weight(a));
+    let weight_b = i128::from(accepted_weight(b));
+    let sums_a = same_size_sums(a, w, h, pixels);
+    let sums_b = same_size_sums(b, w, h, pixels);
+    let mut out = Vec::new();
+    for (sum_a, sum_b) in sums_a.into_iter().zip(sums_b) {
+        let numerator = i128::from(sum_a) * weight_b - i128::from(sum_b) * weight_a;
+        let value = nearest(numerator, weight_a * weight_b);
+        out.push(i16::try_from(value).expect("a difference is from -255 to 255"));
+    }
+    Ok(out)
+}
+
+/// Which of the three values a reading gives.
+#[derive(Clone, Copy, Debug, PartialEq, Eq)]
+pub enum Choice {
+    Grey,
+    Sum,
+    Quotient,
+}
+
+/// The value of a reading.
+#[derive(Clone, Copy, Debug, PartialEq)]
+pub enum Reading {
+    Grey(u8),
+    Sum(u64),
+    Quotient(f64),
+}
+
+/// The reading at picture place (x, y): refusals 1 to 6, then 15.
+pub fn reading(
+    recipe: &Recipe,
+    w: usize,
+    h: usize,
+    pixels: &[u8],
+    place: (usize, usize),
+    choice: Choice,
+) -> Result<Reading, u8> {
+    check_picture(recipe, w, h, pixels.len())?;
+    if place.0 >= w || place.1 >= h {
+        return Err(15);
+    }
+    let weight = accepted_weight(recipe);
+    let r = coefficients_of(&recipe.rows);
+    let c = coefficients_of(&recipe.columns);
+    let sum = same_size_sum(&Picture { w, h, pixels }, &r, &c, place.0, place.1);
+    // Sum and weight are below 2^53, so both are exact as 64-bit floats.
+    Ok(match choice {
+        Choice::Grey => Reading::Grey(grey(sum, weight)),
+        Choice::Sum => Reading::Sum(sum),
+        Choice::Quotient => Reading::Quotient(sum as f64 / weight as f64),
+    })
+}

@@ -1,0 +1,31 @@
+//! Plain reference version of the bore wall picture filter of document 01.
+//!
+//! Everything here follows the definitions of the paper word for word and
+//! takes no short cuts: coefficients by multiplying polynomials, every sum as
+//! the double sum over a and b. It serves to be compared against.
+//!
+//! A refusal is `Err` with the paper's number. Where the paper lends an output
+//! slice or work cells, a call here takes their lengths and returns the whole
+//! content of the output when it accepts; a refused call writes nothing.
+
+#![forbid(unsafe_code)]
+
+pub mod greys;
+pub mod job;
+pub mod picture;
+pub mod random;
+pub mod recipe;
+pub mod stream;
+
+pub use greys::{
+    difference, difference_cells, grey, reading, round_row, same_size_blur, same_size_cells,
+    Choice, Reading,
+};
+pub use job::{boresums, job_length, read_job, write_job, Job, PROGRAM_BYTES, PROGRAM_CELLS};
+pub use picture::{check_picture, direct, exact_sums, grown_size, pass_by_pass, DirectOutput};
+pub use recipe::{
+    check, check_sides, coefficients, coefficients_of, grown_sides, list_cells, list_cost,
+    needed_cells, reach, row_cost, same, scale_card, weight, Recipe, ScaleCard, MOST_REACH,
+    MOST_SIDE, MOST_WEIGHT, MOST_WIDTHS,
+};
+pub use stream::{drain_refusal, row_refusal, start_refusal, Called, Started, State, Stream};

@@ -1,0 +1,187 @@
+//! Random pictures: the definition beside other ways to the same numbers, which
+//! are written out here, and the calls beside one another.
+
+use crate::{blur, one_pass, subtract, sums};
+use reference::random::Random;
+use reference::{
+    boresums, coefficients_of, grown_sides, read_job, reading, round_row, same, weight, Choice,
+    Reading, Recipe,
+};
+
+/// Puts one box on every row of a picture w wide: each output is the plain sum
+/// of the n places that end there.
+fn box_on_rows(picture: &[u64], w: usize, n: u8) -> Vec<u64> {
+    let n = usize::from(n);
+    let mut out = Vec::new();
+    for row in picture.chunks(w) {
+        for i in 0..w + n - 1 {
+            let inside = (0..w).filter(|&x| x <= i && i < x + n);
+            out.push(inside.map(|x| row[x]).sum());
+        }
+    }
+    out
+}
+
+fn turned(picture: &[u64], w: usize) -> Vec<u64> {
+    let h = picture.len() / w;
+    let places = (0..w).flat_map(|x| (0..h).map(move |y| (x, y)));
+    places.map(|(x, y)| picture[y * w + x]).collect()
+}
+
+/// The grown picture, box by box.
+fn box_by_box(recipe: &Recipe, w: usize, h: usize, pixels: &[u8]) -> Vec<u64> {
+    let mut picture: Vec<u64> = pixels.iter().map(|&pixel| pixel.into()).collect();
+    let mut width = w;
+    for &n in &recipe.rows {
+        picture = box_on_rows(&picture, width, n);
+        width += usize::from(n) - 1;
+    }
+    picture = turned(&picture, width);
+    let mut height = h;
+    for &n in &recipe.columns {
+        picture = box_on_rows(&picture, height, n);
+        height += usize::from(n) - 1;
+    }
+    turned(&picture, height)
+}
+
+/// A small random recipe and picture.
+fn random_case(random: &mut Random) -> (Recipe, usize, usize, Vec<u8>) {
+    let recipe = random.valid_recipe(12);
+    let (w, h) = (random.between(1, 7), random.between(1, 7));
+    let pixels = random.pixels(w * h);
+    (recipe, w, h, pixels)
+}
+
+#[test]
+fn definition_agrees_with_box_by_box() {
+    let mut random = Random::new(1);
+    for _ in 0..300 {
+        let (recipe, w, h, pixels) = random_case(&mut random);
+        let expected = box_by_box(&recipe, w, h, &pixels);
+        assert_eq!(sums(&recipe, w, h, &pixels), expected);
+        assert_eq!(one_pass(&recipe, w, h, &pixels).0, expected);
+    }
+}
+
+#[test]
+fn definition_agrees_with_box_by_box_at_the_limits() {
+    let mut random = Random::new(2);
+    for _ in 0..20 {
+        for recipe in [
+            random.recipe_of_length(48),
+            random.recipe_of_reach(255),
+            random.recipe_of_full_weight(),
+            random.recipe_just_below(),
+        ] {
+            let pixels = random.pixels(6);
+            let expected = box_by_box(&recipe, 3, 2, &pixels);
+            assert_eq!(sums(&recipe, 3, 2, &pixels), expected);
+        }
+    }
+}
+
+#[test]
+fn all_sums_together_are_weight_times_all_pixels() {
+    let mut random = Random::new(3);
+    for _ in 0..200 {
+        let (recipe, w, h, pixels) = random_case(&mut random);
+        let total: u128 = sums(&recipe, w, h, &pixels)
+            .iter()
+            .map(|&s| u128::from(s))
+            .sum();
+        let light: u128 = pixels.iter().map(|&p| u128::from(p)).sum();
+        assert_eq!(total, weight(&recipe) * light);
+    }
+}
+
+#[test]
+fn coefficients_read_the_same_from_both_ends() {
+    let mut random = Random::new(4);
+    for _ in 0..200 {
+        let list = random.valid_recipe(255).rows;
+        let ahead = coefficients_of(&list);
+        let back: Vec<u64> = ahead.iter().rev().copied().collect();
+        assert_eq!(ahead, back);
+    }
+}
+
+#[test]
+fn blur_reading_and_rounding_agree() {
+    let mut random = Random::new(6);
+    for _ in 0..100 {
+        let (recipe, w, h, pixels) = random_case(&mut random);
+        let (width, height) = grown_sides(&recipe, w, h).unwrap();
+        let all = sums(&recipe, w, h, &pixels);
+        let greys = round_row(&recipe, &all, all.len()).unwrap();
+        let blurred = blur(&recipe, w, h, &pixels);
+        let (left, top) = ((width - w) / 2, (height - h) / 2);
+        for (x, y) in (0..w).flat_map(|x| (0..h).map(move |y| (x, y))) {
+            let at = (y + top) * width + x + left;
+            assert_eq!(blurred[y * w + x], greys[at]);
+            let read = |choice| reading(&recipe, w, h, &pixels, (x, y), choice).unwrap();
+            assert_eq!(read(Choice::Grey), Reading::Grey(greys[at]));
+            assert_eq!(read(Choice::Sum), Reading::Sum(all[at]));
+            let quotient = all[at] as f64 / weight(&recipe) as f64;
+            assert_eq!(read(Choice::Quotient), Reading::Quotient(quotient));
+        }
+    }
+}
+
+#[test]
+fn difference_turns_its_sign_and_is_0_for_equal_recipes() {
+    let mut random = Random::new(7);
+    for _ in 0..100 {
+        let (w, h) = (random.between(1, 7), random.between(1, 7));
+        let pixels = random.pixels(w * h);
+        let odd = random.coin();
+        let list = |random: &mut Random| match odd {
+            true => vec![random.one_of(&[2, 4, 6])],
+            false => vec![random.one_of(&[1, 3, 5])],
+        };
+        let a = Recipe::new(&list(&mut random), &[3]);
+        let b = Recipe::new(&list(&mut random), &[2, 2]);
+        let there = subtract(&a, &b, w, h, &pixels);
+        let back: Vec<i16> = subtract(&b, &a, w, h, &pixels).iter().map(|v| -v).collect();
+        assert_eq!(there, back);
+        assert_eq!(subtract(&a, &a, w, h, &pixels), vec![0; w * h]);
+    }
+}
+
+#[test]
+fn shuffled_recipes_with_ones_are_the_same() {
+    let mut random = Random::new(8);
+    for _ in 0..100 {
+        let recipe = random.valid_recipe(40);
+        let mut other = recipe.clone();
+        other.rows.reverse();
+        other.columns.retain(|&n| n != 1);
+        assert_eq!(same(&recipe, &other), Ok(true));
+        if let Some(first) = other.rows.first_mut() {
+            *first = if *first == 1 { 2 } else { 1 };
+            if let Ok(equal) = same(&recipe, &other) {
+                assert!(!equal);
+            }
+        }
+    }
+}
+
+#[test]
+fn program_prints_the_sums_of_random_jobs() {
+    let mut random = Random::new(9);
+    for _ in 0..100 {
+        let bytes = random.job(8, 8);
+        let job = read_job(&bytes).unwrap();
+        let all = sums(&job.recipe, job.w, job.h, &bytes[job.offset..]);
+        let (width, height) = grown_sides(&job.recipe, job.w, job.h).unwrap();
+        let text = boresums(&bytes);
+        assert!(text.ends_with('\n') && text.lines().count() == height + 1);
+        let numbers: Vec<u64> = text
+            .split_whitespace()
+            .map(|number| number.parse().unwrap())
+            .collect();
+        let head = [width as u64, height as u64, weight(&job.recipe) as u64];
+        assert_eq!(numbers[..3], head);
+        assert_eq!(numbers[3..], all);
+    }
+}
