@@ -10,7 +10,7 @@ use lib.ListN.{length}
 use borrow.Author.Tests.{eq-eqb, ne-eqb}
 use Rattle.spec.specs.Words.{tab, product}
 use Rattle.spec.specs.Recipe.{kernel, order, gain}
-use Rattle.spec.specs.Refusals.{first, alone, otherLength, kernelChecks}
+use Rattle.spec.specs.Refusals.{first, alone, otherOutput, kernelChecks}
 use Rattle.laws.proofs.Kernels.{at, holds-tab, length-kernel}
 use Rattle.laws.proofs.Refusals.{lent-refused, lent-accepted}
 use Rattle.filter.specs.declared.checks.Measures.{Measures}
@@ -38,23 +38,23 @@ module _ (ns old : List ℕ) (m : Measures) (s : m ≡ measured (alone ns)) wher
         (omega (arith, k .notZero, mul-one (product ns)), omega (arith, k .light, mul-one (product ns)))
 
     -- 7 goes by the length of the slice
-    by-length : first (kernelChecks ns (length old)) ≡ cond (otherLength (length old) (order ns + 1)) 7 0
+    by-length : first (kernelChecks ns (length old)) ≡ cond (otherOutput (length old) (order ns + 1)) 7 0
     unfolding kernelChecks
-    by-length = measured-then (alone ns) m s z (otherLength (length old) (order ns + 1)) 7
+    by-length = measured-then (alone ns) m s z (otherOutput (length old) (order ns + 1)) 7
 
     reach : m .«row_order» ≡ order ns
     unfolding alone
     reach = list-known .rowReach
 
     pub filled-other : (length old ≡ m .«row_order» + 1 → ⊥) → Filled ns old 7 old
-    unfolding otherLength
+    unfolding otherOutput
     filled-other h =
         let e : first (kernelChecks ns (length old)) ≡ 7 =
         by-length ∙ ap (λ b. cond (not b) 7 0) (ne-eqb (length old) (order ns + 1) (λ p. h (p ∙ ap (λ n. n + 1) (sym reach)))) in
         record { answer = sym e; slice = sym (lent-refused _ _ old 7 e (λ p. omega arith)) }
 
     pub filled-all : (new : List ℕ) → length old ≡ m .«row_order» + 1 → new ≡ tab (length old) (at (kernel ns)) → Filled ns old 0 new
-    unfolding otherLength
+    unfolding otherOutput
     filled-all new l p =
         let size : length old ≡ order ns + 1 = l ∙ ap (λ n. n + 1) reach in
         let e : first (kernelChecks ns (length old)) ≡ 0 =

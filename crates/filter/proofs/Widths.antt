@@ -8,10 +8,18 @@ use native.Mathlib.Omega.{arith}
 use lib.ListN.{length, getD, take, drop}
 use lib.Seq.{drop-cons, getD-take}
 use Rattle.spec.specs.declared.Cascade.{Cascade}
-use Rattle.spec.specs.Words.{total, product}
+use Rattle.spec.specs.Words.{tab, part, total, product}
 use Rattle.spec.specs.Recipe.{widths}
-use Rattle.laws.proofs.Lists.{part-take, length-part, total-more, product-more}
+use Rattle.laws.proofs.Lists.{tab-agree, part-take, length-part, total-more, product-more}
 use Rattle.laws.proofs.Numbers.{cap-times}
+
+-- what stands past the count plays no part: every contract speaks of a cascade through its widths alone
+pub widths-alike : (c d : Cascade) → c .count ≡ d .count → ((k : ℕ) → k < c .count → getD (c .widths) k 0 ≡ getD (d .widths) k 0)
+    → widths c ≡ widths d
+unfolding widths part
+widths-alike c d e h =
+    tab-agree (c .count) (λ k. getD (c .widths) (0 + k) 0) (λ k. getD (d .widths) (0 + k) 0) (λ k l. h (0 + k) (omega arith))
+    ∙ ap (λ n. tab n (λ k. getD (d .widths) (0 + k) 0)) e
 
 -- a cascade with a count of at most 48 holds the first entries of its array
 widths-taken : (c : Cascade) → c .count ≤ 48 → length (c .widths) ≡ 48 → widths c ≡ take (c .count) (c .widths)

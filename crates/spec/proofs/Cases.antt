@@ -1,15 +1,19 @@
 -- Each ◆ case of document 01 holds of the definitions: one equation that antt computes over the whole table, and from it the
--- equation of each case.
+-- equation of each case. And document 01's example of a job.
 -- Assumes nothing.
 use mathlib.Core.Path.{_≡_, refl, sym, ap, _∙_}
 use mathlib.Core.List.{List, [], _∷_, map, tail, headD, flatten, List·Memᴰ, List·Memᴰ·not-nil, List·Memᴰ·cases-cons}
 use mathlib.Core.Logic.{⊎-elim}
 use lib.Ieee
-use Rattle.spec.specs.Words.{sum, tab, total, product, everywhere, keep, occurs}
+use Rattle.spec.specs.Words.{sum, tab, part, total, product, somewhere, everywhere, keep, occurs}
 use Rattle.spec.specs.Recipe.{box, convolve, kernel, order, gain}
 use Rattle.spec.specs.Picture.{pixel, pixelBack, exact, fullWidth, fullHeight, fullRow, full}
 use Rattle.spec.specs.Gray.{gray, places, sameSum, sameGray, nearest, nearestDifference, difference, float, ratio, squares, variance}
 use Rattle.spec.specs.Same.{struck, sameCounts, equivalent}
+use Rattle.spec.specs.Stream.{boxCells, streamCells}
+use Rattle.spec.specs.Job.{mark, version, read16, jobRecipe, jobWidth, jobHeight, jobOffset, jobLength, jobPicture}
+use Rattle.spec.specs.Refusals.{tooLong, zeroWidth, tooFar, tooHeavy, badSide, badSides, tooFewCells, badHead, cutShort, otherTotal, overProgram, check, first, either, recipeChecks, sizeChecks, jobChecks, programChecks}
+use Rattle.spec.specs.Program.{decimalDigits, decimal, line, sumsPrinted, printed}
 use Rattle.spec.specs.Cases.{Case, numbers, output, along, both, picture, twos, table}
 
 -- the test over the whole table
@@ -28,3 +32,10 @@ at-member f g (x ∷ xs) e a m =
 -- every case of the table holds
 pub holds : (c : Case) → List·Memᴰ c table → output (c .question) ≡ c .expected
 holds = at-member (λ (c : Case). output (c .question)) (λ (c : Case). c .expected) table all
+
+-- document 01's example of a job prints the two lines `3 1 4` and `4 8 4`
+pub example-printed :
+    printed (0x42 ∷ 0x4F ∷ 0x52 ∷ 0x01 ∷ 0x00 ∷ 0x02 ∷ 0x00 ∷ 0x02 ∷ 0x02 ∷ 0x01 ∷ 0x00 ∷ 0x01 ∷ 0x00 ∷ 0x04 ∷ [])
+    ≡ 51 ∷ 32 ∷ 49 ∷ 32 ∷ 52 ∷ 10 ∷ 52 ∷ 32 ∷ 56 ∷ 32 ∷ 52 ∷ 10 ∷ []
+unfolding printed sumsPrinted line decimal decimalDigits first either programChecks check overProgram jobChecks badHead mark version read16 tooLong zeroWidth tooFar tooHeavy badSide badSides cutShort otherTotal tooFewCells sizeChecks recipeChecks streamCells boxCells jobRecipe jobWidth jobHeight jobOffset jobLength jobPicture sum tab part total product somewhere box convolve kernel order gain pixel pixelBack exact fullWidth fullHeight fullRow flatten
+example-printed = refl

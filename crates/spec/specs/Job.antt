@@ -1,7 +1,7 @@
 -- Document 01, "Job file": its bytes, and what stands where in a file.
 use mathlib.Core.List.{List, [], _∷_, _++_}
 use Prim.Native.Nat.{ℕ, _+_, _*_, _/_, _%_}
-use lib.ListN.{length, getD}
+use lib.ListN.{length, getD, drop}
 use Rattle.spec.specs.Words.{part}
 use Rattle.spec.specs.Recipe.{Recipe}
 use Rattle.spec.specs.Picture.{Picture}
@@ -30,7 +30,7 @@ jobBytes r p =
 unfoldable pub jobLength : Recipe → ℕ → ℕ → ℕ
 jobLength r w h = 11 + length (r .rows) + length (r .columns) + w * h
 
--- what a file says: the recipe, w and h, and the offset at which the pixels begin
+-- what a file says: the recipe, w and h, the offset at which the pixels begin, and the picture
 unfoldable pub jobRecipe : List ℕ → Recipe
 jobRecipe bytes =
     record {
@@ -46,3 +46,6 @@ jobHeight bytes = read16 bytes (9 + getD bytes 5 0 + getD bytes 6 0)
 
 unfoldable pub jobOffset : List ℕ → ℕ
 jobOffset bytes = 11 + getD bytes 5 0 + getD bytes 6 0
+
+unfoldable pub jobPicture : List ℕ → Picture
+jobPicture bytes = record { width = jobWidth bytes; height = jobHeight bytes; pixels = drop (jobOffset bytes) bytes }

@@ -6,4 +6,5 @@ pub mod Gray
 pub mod Same
 pub mod Job
 pub mod Refusals
+pub mod Program
 pub mod Cases

@@ -1,10 +1,10 @@
 -- Document 01, "If the reader says no": each condition by its number, and the order in which each call asks them.
-use mathlib.Core.Bool.{Bool, true, false, not, _&&_, _||_, cond}
+use mathlib.Core.Bool.{Bool, not, _&&_, _||_, cond}
 use mathlib.Core.List.{List, [], _∷_, _++_}
 use Prim.Native.Nat.{ℕ, zero, suc, _+_, _*_, _%_, _^_}
 use lib.Dec.{leb, ltb, eqb}
-use lib.ListN.{length, take, getD}
-use Rattle.spec.specs.Words.{somewhere, part}
+use lib.ListN.{length, getD}
+use Rattle.spec.specs.Words.{somewhere}
 use Rattle.spec.specs.Recipe.{Recipe, order, gain}
 use Rattle.spec.specs.Picture.{Picture, fullWidth, fullHeight}
 use Rattle.spec.specs.Stream.{State, streamCells}
@@ -35,13 +35,30 @@ badSide n = eqb n 0 || ltb 1024 n
 unfoldable pub badSides : ℕ → ℕ → Bool
 badSides w h = badSide w || badSide h
 
--- 6: a pixel slice has another length than the row or picture; 7: an output slice has another length than stated
-unfoldable pub otherLength : ℕ → ℕ → Bool
-otherLength given stated = not (eqb given stated)
+-- 6: a pixel slice has another length than the row or picture
+unfoldable pub otherPixels : ℕ → ℕ → Bool
+otherPixels given stated = not (eqb given stated)
+
+-- 7: an output slice has another length than stated
+unfoldable pub otherOutput : ℕ → ℕ → Bool
+otherOutput given stated = not (eqb given stated)
 
 -- 8: fewer work cells than needed
 unfoldable pub tooFewCells : ℕ → ℕ → Bool
 tooFewCells given needed = ltb given needed
+
+-- 9: a state whose recipe or sides would be refused, or with more rows yielded than the grown height
+unfoldable pub badState : State → Bool
+badState s =
+    tooLong (s .recipe) || zeroWidth (s .recipe) || tooFar (s .recipe) || tooHeavy (s .recipe) || badSides (s .width) (s .height)
+    || ltb (fullHeight (s .recipe) (s .height)) (s .emitted)
+
+-- 10: a row when h are in; a drain before that, or a drain when all are out
+unfoldable pub rowNotDue : State → Bool
+rowNotDue s = leb (s .height) (s .emitted)
+
+unfoldable pub drainNotDue : State → Bool
+drainNotDue s = ltb (s .emitted) (s .height) || leb (fullHeight (s .recipe) (s .height)) (s .emitted)
 
 -- 11: a sum to be rounded is above 255 times the weight
 unfoldable pub tooBright : ℕ → List ℕ → Bool
@@ -58,7 +75,7 @@ parityDiffers a b = oddApart (order (a .rows)) (order (b .rows)) || oddApart (or
 unfoldable pub productTooHeavy : Recipe → Recipe → Bool
 productTooHeavy a b = ltb (2 ^ 44) (gain a * gain b)
 
--- 14: mark or version wrong, or under 7 bytes; lists and sides cut short; another total length; over the program's 65,536
+-- 14: under 7 bytes, mark or version wrong; lists and sides cut short; another total length; over the program's 65,536
 unfoldable pub badHead : List ℕ → Bool
 badHead bytes =
     ltb (length bytes) 7
@@ -69,7 +86,7 @@ unfoldable pub cutShort : List ℕ → Bool
 cutShort bytes = ltb (length bytes) (jobLength (jobRecipe bytes) 0 0)
 
 unfoldable pub otherTotal : List ℕ → Bool
-otherTotal bytes = otherLength (length bytes) (jobLength (jobRecipe bytes) (jobWidth bytes) (jobHeight bytes))
+otherTotal bytes = not (eqb (length bytes) (jobLength (jobRecipe bytes) (jobWidth bytes) (jobHeight bytes)))
 
 unfoldable pub overProgram : List ℕ → Bool
 overProgram bytes = ltb 65536 (length bytes)
@@ -122,7 +139,7 @@ alone ns = record { rows = ns; columns = [] }
 
 -- coefficients of a list: 1 to 4, 7
 unfoldable pub kernelChecks : List ℕ → ℕ → List Check
-kernelChecks ns out = recipeChecks (alone ns) ++ check (otherLength out (order ns + 1)) 7 ∷ []
+kernelChecks ns out = recipeChecks (alone ns) ++ check (otherOutput out (order ns + 1)) 7 ∷ []
 
 -- the grown sides: 1 to 5; the needed cells for a width: 1 to 5
 unfoldable pub sizeChecks : Recipe → ℕ → ℕ → List Check
@@ -133,36 +150,23 @@ cellChecks r w = recipeChecks r ++ check (badSide w) 5 ∷ []
 
 -- a picture, with its pixel slice: 1 to 6
 unfoldable pub pictureChecks : Recipe → Picture → List Check
-pictureChecks r p = sizeChecks r (p .width) (p .height) ++ check (otherLength (length (p .pixels)) (p .width * p .height)) 6 ∷ []
+pictureChecks r p = sizeChecks r (p .width) (p .height) ++ check (otherPixels (length (p .pixels)) (p .width * p .height)) 6 ∷ []
 
 -- one pass, the start: 1 to 5, 8
 unfoldable pub startChecks : Recipe → ℕ → ℕ → ℕ → List Check
 startChecks r w h cells = sizeChecks r w h ++ check (tooFewCells cells (streamCells r w)) 8 ∷ []
 
--- 9: a state whose recipe or sides would be refused, or with more rows yielded than the grown height
-unfoldable pub badState : State → Bool
-badState s =
-    not (eqb (first (sizeChecks (s .recipe) (s .width) (s .height))) 0)
-    || ltb (fullHeight (s .recipe) (s .height)) (s .emitted)
-
--- 10: a row when h are in; a drain before that, or a drain when all are out
-unfoldable pub rowNotDue : State → Bool
-rowNotDue s = leb (s .height) (s .emitted)
-
-unfoldable pub drainNotDue : State → Bool
-drainNotDue s = ltb (s .emitted) (s .height) || leb (fullHeight (s .recipe) (s .height)) (s .emitted)
-
 -- one pass, a row call: 9, 10, 6, 7, 8; a drain: 9, 10, 7, 8
 unfoldable pub rowChecks : State → ℕ → ℕ → ℕ → List Check
 rowChecks s pixels out cells =
-    check (badState s) 9 ∷ check (rowNotDue s) 10 ∷ check (otherLength pixels (s .width)) 6
-    ∷ check (otherLength out (fullWidth (s .recipe) (s .width))) 7
+    check (badState s) 9 ∷ check (rowNotDue s) 10 ∷ check (otherPixels pixels (s .width)) 6
+    ∷ check (otherOutput out (fullWidth (s .recipe) (s .width))) 7
     ∷ check (tooFewCells cells (streamCells (s .recipe) (s .width))) 8 ∷ []
 
 unfoldable pub drainChecks : State → ℕ → ℕ → List Check
 drainChecks s out cells =
     check (badState s) 9 ∷ check (drainNotDue s) 10
-    ∷ check (otherLength out (fullWidth (s .recipe) (s .width))) 7
+    ∷ check (otherOutput out (fullWidth (s .recipe) (s .width))) 7
     ∷ check (tooFewCells cells (streamCells (s .recipe) (s .width))) 8 ∷ []
 
 -- the grown size
@@ -172,30 +176,30 @@ fullSize r p = fullWidth r (p .width) * fullHeight r (p .height)
 -- pass by pass: 1 to 8
 unfoldable pub passChecks : Recipe → Picture → ℕ → ℕ → List Check
 passChecks r p out cells =
-    pictureChecks r p ++ check (otherLength out (fullSize r p)) 7 ∷ check (tooFewCells cells (fullSize r p)) 8 ∷ []
+    pictureChecks r p ++ check (otherOutput out (fullSize r p)) 7 ∷ check (tooFewCells cells (fullSize r p)) 8 ∷ []
 
 -- direct: 1 to 7, the two slices for R and C and the output
 unfoldable pub directChecks : Recipe → Picture → ℕ → ℕ → ℕ → List Check
 directChecks r p rs cs out =
     pictureChecks r p
-    ++ check (otherLength rs (order (r .rows) + 1) || otherLength cs (order (r .columns) + 1) || otherLength out (fullSize r p)) 7 ∷ []
+    ++ check (otherOutput rs (order (r .rows) + 1) || otherOutput cs (order (r .columns) + 1) || otherOutput out (fullSize r p)) 7 ∷ []
 
 -- rounding: 1 to 4, 7, 11
 unfoldable pub roundChecks : Recipe → List ℕ → ℕ → List Check
 roundChecks r sums out =
-    recipeChecks r ++ check (otherLength out (length sums)) 7 ∷ check (tooBright (gain r) sums) 11 ∷ []
+    recipeChecks r ++ check (otherOutput out (length sums)) 7 ∷ check (tooBright (gain r) sums) 11 ∷ []
 
 -- same-size blur: 1 to 8, with twice the grown size in work cells
 unfoldable pub sameSizeChecks : Recipe → Picture → ℕ → ℕ → List Check
 sameSizeChecks r p out cells =
     pictureChecks r p
-    ++ check (otherLength out (p .width * p .height)) 7 ∷ check (tooFewCells cells (2 * fullSize r p)) 8 ∷ []
+    ++ check (otherOutput out (p .width * p .height)) 7 ∷ check (tooFewCells cells (2 * fullSize r p)) 8 ∷ []
 
 -- difference: A's 1 to 4, B's 1 to 4, then 5, 6, 7, 8, 12, 13, with twice both grown sizes together in work cells
 unfoldable pub differenceChecks : Recipe → Recipe → Picture → ℕ → ℕ → List Check
 differenceChecks a b p out cells =
     recipeChecks a ++ (pictureChecks b p
-    ++ check (otherLength out (p .width * p .height)) 7
+    ++ check (otherOutput out (p .width * p .height)) 7
     ∷ check (tooFewCells cells (2 * (fullSize a p + fullSize b p))) 8
     ∷ check (parityDiffers a b) 12 ∷ check (productTooHeavy a b) 13 ∷ [])
 
@@ -207,7 +211,8 @@ readingChecks r p i j = pictureChecks r p ++ check (outside (p .width) (p .heigh
 unfoldable pub compareChecks : Recipe → Recipe → List Check
 compareChecks a b = recipeChecks a ++ recipeChecks b
 
--- reading a job: 14 for under 7 bytes, mark or version; 1; 14 if lists and sides are cut short; 2 to 5; 14 for any other total length
+-- reading a job: 14 for under 7 bytes, mark or version; 1; 14 if lists and sides are cut short; 2 to 5 (1 was asked already); 14 for any
+-- other total length
 unfoldable pub jobChecks : List ℕ → List Check
 jobChecks bytes =
     check (badHead bytes) 14 ∷ check (tooLong (jobRecipe bytes)) 1 ∷ check (cutShort bytes) 14
@@ -215,7 +220,7 @@ jobChecks bytes =
 
 -- writing a job: 1 to 7
 unfoldable pub writeChecks : Recipe → Picture → ℕ → List Check
-writeChecks r p out = pictureChecks r p ++ check (otherLength out (jobLength r (p .width) (p .height))) 7 ∷ []
+writeChecks r p out = pictureChecks r p ++ check (otherOutput out (jobLength r (p .width) (p .height))) 7 ∷ []
 
 -- the program, with 8,192 cells: 14 for its size limit first of all, the job's own, then 8
 unfoldable pub programChecks : List ℕ → List Check
