@@ -46,6 +46,13 @@ fn difference(out: &mut [u64], n: usize)
     }
 }
 
+// A width as a number of places.
+fn places(n: u8) -> usize
+    ensures { λ r. ⌜ r ≡ n ⌝ }
+{
+    n as usize
+}
+
 // The coefficients of a cascade, box by box, as far as the slice goes.
 fn convolve(list: Cascade, out: &mut [u64])
     requires { ⌜ (list .count ≤ 48) × (0 < product (widths list)) × (product (widths list) ≤ 2 ^ 44) ⌝ }
@@ -56,14 +63,8 @@ fn convolve(list: Cascade, out: &mut [u64])
     while 0 < i {
         i -= 1;
         accumulate(out);
-        difference(out, wide(list.widths[i]));
+        difference(out, places(list.widths[i]));
     }
-}
-
-fn wide(n: u8) -> usize
-    ensures { λ r. ⌜ r ≡ n ⌝ }
-{
-    n as usize
 }
 
 // The coefficients of a cascade into a slice of exactly its reach and one: refused by 1 to 4, for the

@@ -1,10 +1,9 @@
 // The sizes of the buffers that a caller lends: the grown sides, and the work cells of the one pass.
 ghost use mathlib.Core.Path.{_≡_};
 ghost use Prim.Native.Nat.{_+_, _*_, _≤_};
-ghost use Rattle.spec.specs.Words.{total};
 ghost use Rattle.spec.specs.Recipe.{widths, recipe};
 ghost use Rattle.spec.specs.Picture.{fullSides};
-ghost use Rattle.spec.specs.Stream.{boxCells, streamCells};
+ghost use Rattle.spec.specs.Stream.{boxCells, cascadeCells, streamCells};
 ghost use Rattle.spec.specs.Refusals.{badSide, badSides, answer, sizeChecks, cellChecks};
 ghost use Rattle.filter.specs.Answers.{sizeTold, cellsTold};
 use crate::checks::measure;
@@ -23,12 +22,14 @@ pub enum Cells {
     Refused(u8),
 }
 
+// A side of 0 or above 1,024.
 fn bad_side(n: usize) -> bool
     ensures { λ r. ⌜ r ≡ badSide n ⌝ }
 {
     if n == 0 { true } else { 1024 < n }
 }
 
+// So on either axis.
 fn bad_sides(width: usize, height: usize) -> bool
     ensures { λ r. ⌜ r ≡ badSides width height ⌝ }
 {
@@ -73,7 +74,7 @@ fn box_cells(n: u8) -> usize
 // The cells of one cascade.
 fn cascade_cells(list: Cascade) -> usize
     requires { ⌜ list .count ≤ 48 ⌝ }
-    ensures { λ r. ⌜ (r ≡ total boxCells (widths list)) × (r ≤ 255 * 48) ⌝ }
+    ensures { λ r. ⌜ (r ≡ cascadeCells (widths list)) × (r ≤ 255 * 48) ⌝ }
 {
     let count = list.count as usize;
     let mut cells: usize = 0;

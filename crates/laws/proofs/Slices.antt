@@ -125,12 +125,13 @@ module _ {A : Type 0} where
 
 -- A loop that gives each entry k of a slice the value f k.
 module _ {A : Type 0} (f : ℕ → A) (old : List A) where
-  -- up to k from the left, and from k on from the right
-  abbrev pub Leftwards : ℕ → List A → Type 0
-  Leftwards k l = Mixed k old (tab (length old) f) l
-
+  -- a loop from the left that has written the entries below k
   abbrev pub Rightwards : ℕ → List A → Type 0
   Rightwards k l = Mixed k (tab (length old) f) old l
+
+  -- a loop from the right that has written the entries from k on
+  abbrev pub Leftwards : ℕ → List A → Type 0
+  Leftwards k l = Mixed k old (tab (length old) f) l
 
   pub rightwards-none : Rightwards 0 old
   rightwards-none = mixed-none (tab (length old) f) old (length-tab (length old) f)

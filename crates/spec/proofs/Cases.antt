@@ -10,7 +10,7 @@ use Rattle.spec.specs.Recipe.{box, convolve, kernel, order, gain}
 use Rattle.spec.specs.Picture.{pixel, pixelBack, exact, fullWidth, fullHeight, fullRow, full}
 use Rattle.spec.specs.Gray.{gray, places, sameSum, sameGray, nearest, nearestDifference, difference, float, ratio, squares, variance}
 use Rattle.spec.specs.Same.{struck, sameCounts, equivalent}
-use Rattle.spec.specs.Stream.{boxCells, streamCells}
+use Rattle.spec.specs.Stream.{boxCells, cascadeCells, streamCells}
 use Rattle.spec.specs.Job.{mark, version, read16, jobRecipe, jobWidth, jobHeight, jobOffset, jobLength, jobPicture}
 use Rattle.spec.specs.Refusals.{tooLong, zeroWidth, tooFar, tooHeavy, badSide, badSides, tooFewCells, badHead, cutShort, otherTotal, overProgram, check, first, either, recipeChecks, sizeChecks, jobChecks, programChecks}
 use Rattle.spec.specs.Program.{decimalDigits, decimal, line, sumsPrinted, printed}
@@ -37,5 +37,5 @@ holds = at-member (λ (c : Case). output (c .question)) (λ (c : Case). c .expec
 pub example-printed :
     printed (0x42 ∷ 0x4F ∷ 0x52 ∷ 0x01 ∷ 0x00 ∷ 0x02 ∷ 0x00 ∷ 0x02 ∷ 0x02 ∷ 0x01 ∷ 0x00 ∷ 0x01 ∷ 0x00 ∷ 0x04 ∷ [])
     ≡ 51 ∷ 32 ∷ 49 ∷ 32 ∷ 52 ∷ 10 ∷ 52 ∷ 32 ∷ 56 ∷ 32 ∷ 52 ∷ 10 ∷ []
-unfolding printed sumsPrinted line decimal decimalDigits first either programChecks check overProgram jobChecks badHead mark version read16 tooLong zeroWidth tooFar tooHeavy badSide badSides cutShort otherTotal tooFewCells sizeChecks recipeChecks streamCells boxCells jobRecipe jobWidth jobHeight jobOffset jobLength jobPicture sum tab part total product somewhere box convolve kernel order gain pixel pixelBack exact fullWidth fullHeight fullRow flatten
+unfolding printed sumsPrinted line decimal decimalDigits first either programChecks check overProgram jobChecks badHead mark version read16 tooLong zeroWidth tooFar tooHeavy badSide badSides cutShort otherTotal tooFewCells sizeChecks recipeChecks streamCells cascadeCells boxCells jobRecipe jobWidth jobHeight jobOffset jobLength jobPicture sum tab part total product somewhere box convolve kernel order gain pixel pixelBack exact fullWidth fullHeight fullRow flatten
 example-printed = refl

@@ -18,14 +18,22 @@ pub record State : Type 0 where
 unfoldable pub boxCells : ℕ → ℕ
 boxCells n = cond (ltb n 2) 0 (cond (eqb n 2) 1 n)
 
+-- cells of a list
+unfoldable pub cascadeCells : List ℕ → ℕ
+cascadeCells ns = total boxCells ns
+
 -- Needed cells: the row list's, plus (w + rx) times the column list's.
 unfoldable pub streamCells : Recipe → ℕ → ℕ
-streamCells r w = total boxCells (r .rows) + fullWidth r w * total boxCells (r .columns)
+streamCells r w = cascadeCells (r .rows) + fullWidth r w * cascadeCells (r .columns)
 
 -- cost of a box in additions and subtractions: width 1 costs 0, width 2 costs 1, wider costs 2
 unfoldable pub boxCost : ℕ → ℕ
 boxCost n = cond (ltb n 2) 0 (cond (eqb n 2) 1 2)
 
+-- cost of a list
+unfoldable pub cascadeCost : List ℕ → ℕ
+cascadeCost ns = total boxCost ns
+
 -- Count of a row call or a drain: (w + rx) times the cost of both lists.
 unfoldable pub rowCost : Recipe → ℕ → ℕ
-rowCost r w = fullWidth r w * (total boxCost (r .rows) + total boxCost (r .columns))
+rowCost r w = fullWidth r w * (cascadeCost (r .rows) + cascadeCost (r .columns))

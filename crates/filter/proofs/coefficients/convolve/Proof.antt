@@ -60,17 +60,17 @@ accumulate-requires c κs =
     let start = c .before .before .before .before .before .before .before .before in
     bounded (widths (start .args .t1)) (turn .i) (turn .out) (start .pre .1) (start .pre .2) (turn .inv .3)
 
-element-copy-out-wide : tie.Need-element-copy-out-wide Inv-loop μ-loop
-element-copy-out-wide c = search needs
+element-copy-out-places : tie.Need-element-copy-out-places Inv-loop μ-loop
+element-copy-out-places c = search needs
 
-wide-requires : tie.Need-wide-requires Inv-loop μ-loop
-wide-requires c κs = search needs
+places-requires : tie.Need-places-requires Inv-loop μ-loop
+places-requires c κs = search needs
 
 difference-requires : tie.Need-difference-requires Inv-loop μ-loop
 difference-requires c κs =
     let turn = c .before .before .before .before .before .before .before .before .loop in
     let list = c .before .before .before .before .before .before .before .before .before .before .before .before .before .before .args .t1 in
-    totals-rise (at (kernel (drop (turn .i) (widths list)))) (turn .out) (turn .inv .3) _ (c .before .before .before .before .before .accumulate .ensures) (c .wide .result)
+    totals-rise (at (kernel (drop (turn .i) (widths list)))) (turn .out) (turn .inv .3) _ (c .before .before .before .before .before .accumulate .ensures) (c .places .result)
 
 loop-less : tie.Need-loop-less Inv-loop μ-loop
 loop-less c = search needs
@@ -80,7 +80,7 @@ loop-again c =
     let turn = c .before .before .before .before .before .before .before .before .before .before .before .loop in
     let start = c .before .before .before .before .before .before .before .before .before .before .before .before .before .before .before .before .before in
     let list = start .args .t1 in
-    let n = c .before .before .before .wide in
+    let n = c .before .before .before .places in
     let totals = c .before .before .before .before .before .before .before .before .accumulate in
     let boxed = c .before .before .difference in
     let e : turn .i ≡ suc (turn .i - 1) = omega arith in
@@ -118,8 +118,8 @@ convolve-spec =
     loop-holds
     sub-i
     accumulate-requires
-    element-copy-out-wide
-    wide-requires
+    element-copy-out-places
+    places-requires
     difference-requires
     loop-less
     loop-again

@@ -4,7 +4,7 @@ use mathlib.Core.Path.{refl}
 use Prim.Native.Nat.{_-_}
 use native.Mathlib.Omega.{arith}
 use borrow.Author.Needs.{needs}
-use Rattle.spec.specs.Stream.{boxCells}
+use Rattle.spec.specs.Stream.{boxCells, cascadeCells}
 use Rattle.filter.proofs.Widths.{Summed, summed-none, summed-more, summed-all}
 use Rattle.filter.proofs.sizes.cascade_cells.Statement.{statement}
 use Rattle.filter.proofs.sizes.cascade_cells.Tie as tie
@@ -44,6 +44,7 @@ loop-again c =
     (c .box-cells .ensures .0) (c .box-cells .ensures .1)
 
 returns : tie.Need-returns Inv-loop μ-loop
+unfolding cascadeCells
 returns c =
     let start = c .before .before in
     let now = c .before .loop in

@@ -1,0 +1,147 @@
+-- Examples of definitions that no ◆ case reaches, each computed: the numbers of each call's checks in their order, each condition on both
+-- sides of its limit, the cells and the cost of the one pass, and the bytes of a job.
+-- Assumes nothing.
+use mathlib.Core.Path.{_≡_, refl}
+use mathlib.Core.Bool.{true, false}
+use mathlib.Core.List.{List, [], _∷_, _++_, map}
+use Prim.Native.Nat.{ℕ}
+use lib.ListN.{replicate}
+use Rattle.spec.specs.Words.{sum, tab, part, total, product, somewhere}
+use Rattle.spec.specs.Recipe.{Recipe, order, gain}
+use Rattle.spec.specs.Picture.{Picture, fullWidth, fullHeight}
+use Rattle.spec.specs.Stream.{State, boxCells, cascadeCells, streamCells, boxCost, cascadeCost, rowCost}
+use Rattle.spec.specs.Job.{mark, version, low16, read16, jobBytes, jobLength, jobRecipe, jobWidth, jobHeight, jobOffset}
+use Rattle.spec.specs.Refusals
+use Rattle.spec.specs.Refusals.{Check, check}
+
+-- the numbers that a call can answer, in the order in which it asks them
+abbrev numbers : List Check → List ℕ
+numbers cs = map (λ (c : Check). c .number) cs
+
+module _ (r q : Recipe) (p : Picture) (s : State) (xs : List ℕ) (k m n : ℕ) where
+  pub orders :
+      numbers (Refusals.recipeChecks r)
+      ∷ numbers (Refusals.kernelChecks xs k)
+      ∷ numbers (Refusals.sizeChecks r k m)
+      ∷ numbers (Refusals.cellChecks r k)
+      ∷ numbers (Refusals.startChecks r k m n)
+      ∷ numbers (Refusals.rowChecks s k m n)
+      ∷ numbers (Refusals.drainChecks s k m)
+      ∷ numbers (Refusals.passChecks r p k m)
+      ∷ numbers (Refusals.directChecks r p k m n)
+      ∷ numbers (Refusals.roundChecks r xs k)
+      ∷ numbers (Refusals.sameSizeChecks r p k m)
+      ∷ numbers (Refusals.differenceChecks r q p k m)
+      ∷ numbers (Refusals.readingChecks r p k m)
+      ∷ numbers (Refusals.compareChecks r q)
+      ∷ numbers (Refusals.jobChecks xs)
+      ∷ numbers (Refusals.writeChecks r p k)
+      ∷ numbers (Refusals.programChecks xs)
+      ∷ []
+      ≡ (1 ∷ 2 ∷ 3 ∷ 4 ∷ [])
+      ∷ (1 ∷ 2 ∷ 3 ∷ 4 ∷ 7 ∷ [])
+      ∷ (1 ∷ 2 ∷ 3 ∷ 4 ∷ 5 ∷ [])
+      ∷ (1 ∷ 2 ∷ 3 ∷ 4 ∷ 5 ∷ [])
+      ∷ (1 ∷ 2 ∷ 3 ∷ 4 ∷ 5 ∷ 8 ∷ [])
+      ∷ (9 ∷ 10 ∷ 6 ∷ 7 ∷ 8 ∷ [])
+      ∷ (9 ∷ 10 ∷ 7 ∷ 8 ∷ [])
+      ∷ (1 ∷ 2 ∷ 3 ∷ 4 ∷ 5 ∷ 6 ∷ 7 ∷ 8 ∷ [])
+      ∷ (1 ∷ 2 ∷ 3 ∷ 4 ∷ 5 ∷ 6 ∷ 7 ∷ [])
+      ∷ (1 ∷ 2 ∷ 3 ∷ 4 ∷ 7 ∷ 11 ∷ [])
+      ∷ (1 ∷ 2 ∷ 3 ∷ 4 ∷ 5 ∷ 6 ∷ 7 ∷ 8 ∷ [])
+      ∷ (1 ∷ 2 ∷ 3 ∷ 4 ∷ 1 ∷ 2 ∷ 3 ∷ 4 ∷ 5 ∷ 6 ∷ 7 ∷ 8 ∷ 12 ∷ 13 ∷ [])
+      ∷ (1 ∷ 2 ∷ 3 ∷ 4 ∷ 5 ∷ 6 ∷ 15 ∷ [])
+      ∷ (1 ∷ 2 ∷ 3 ∷ 4 ∷ 1 ∷ 2 ∷ 3 ∷ 4 ∷ [])
+      ∷ (14 ∷ 1 ∷ 14 ∷ 1 ∷ 2 ∷ 3 ∷ 4 ∷ 5 ∷ 14 ∷ [])
+      ∷ (1 ∷ 2 ∷ 3 ∷ 4 ∷ 5 ∷ 6 ∷ 7 ∷ [])
+      ∷ (14 ∷ 14 ∷ 1 ∷ 14 ∷ 1 ∷ 2 ∷ 3 ∷ 4 ∷ 5 ∷ 14 ∷ 8 ∷ [])
+      ∷ []
+  unfolding check Refusals.recipeChecks Refusals.kernelChecks Refusals.sizeChecks Refusals.cellChecks Refusals.pictureChecks Refusals.startChecks Refusals.rowChecks Refusals.drainChecks Refusals.passChecks Refusals.directChecks Refusals.roundChecks Refusals.sameSizeChecks Refusals.differenceChecks Refusals.readingChecks Refusals.compareChecks Refusals.jobChecks Refusals.writeChecks Refusals.programChecks
+  orders = refl
+
+-- a recipe with these lists, and a state of it on a picture of 2 by 3
+abbrev recipeOf : List ℕ → List ℕ → Recipe
+recipeOf ns ms = record { rows = ns; columns = ms }
+
+abbrev stateOf : List ℕ → List ℕ → ℕ → State
+stateOf ns ms k = record { recipe = recipeOf ns ms; width = 2; height = 3; emitted = k }
+
+abbrev twos : ℕ → List ℕ
+twos n = replicate n 2
+
+-- the job of document 01's example
+abbrev job : List ℕ
+job = 0x42 ∷ 0x4F ∷ 0x52 ∷ 0x01 ∷ 0x00 ∷ 0x02 ∷ 0x00 ∷ 0x02 ∷ 0x02 ∷ 0x01 ∷ 0x00 ∷ 0x01 ∷ 0x00 ∷ 0x04 ∷ []
+
+-- each condition, first where it just does not hold, then where it just does
+pub limits :
+    -- 1, on each axis
+    Refusals.tooLong (recipeOf (twos 48) (twos 48)) ∷ Refusals.tooLong (recipeOf (twos 49) []) ∷ Refusals.tooLong (recipeOf [] (twos 49))
+    -- 2
+    ∷ Refusals.zeroWidth (recipeOf (1 ∷ 1 ∷ []) (1 ∷ [])) ∷ Refusals.zeroWidth (recipeOf (1 ∷ 0 ∷ []) []) ∷ Refusals.zeroWidth (recipeOf [] (1 ∷ 0 ∷ []))
+    -- 3
+    ∷ Refusals.tooFar (recipeOf (255 ∷ 2 ∷ []) (255 ∷ 2 ∷ [])) ∷ Refusals.tooFar (recipeOf (255 ∷ 3 ∷ []) []) ∷ Refusals.tooFar (recipeOf [] (255 ∷ 3 ∷ []))
+    -- 4
+    ∷ Refusals.tooHeavy (recipeOf (twos 22) (twos 22)) ∷ Refusals.tooHeavy (recipeOf (twos 23) (twos 22))
+    -- 5
+    ∷ Refusals.badSides 1 1024 ∷ Refusals.badSides 0 1 ∷ Refusals.badSides 1 0 ∷ Refusals.badSides 1025 1 ∷ Refusals.badSides 1 1025
+    -- 6, 7, 8
+    ∷ Refusals.otherPixels 6 6 ∷ Refusals.otherPixels 5 6 ∷ Refusals.otherPixels 7 6
+    ∷ Refusals.otherOutput 6 6 ∷ Refusals.otherOutput 5 6 ∷ Refusals.otherOutput 7 6
+    ∷ Refusals.tooFewCells 6 6 ∷ Refusals.tooFewCells 5 6
+    -- 9: 3 rows in and 1 drained is all
+    ∷ Refusals.badState (stateOf (twos 1) (twos 1) 4) ∷ Refusals.badState (stateOf (twos 1) (twos 1) 5) ∷ Refusals.badState (stateOf (0 ∷ []) [] 0)
+    -- 10
+    ∷ Refusals.rowNotDue (stateOf [] (twos 1) 2) ∷ Refusals.rowNotDue (stateOf [] (twos 1) 3)
+    ∷ Refusals.drainNotDue (stateOf [] (twos 1) 3) ∷ Refusals.drainNotDue (stateOf [] (twos 1) 2) ∷ Refusals.drainNotDue (stateOf [] (twos 1) 4)
+    -- 11
+    ∷ Refusals.tooBright 4 (1020 ∷ 0 ∷ []) ∷ Refusals.tooBright 4 (0 ∷ 1021 ∷ [])
+    -- 12, 13
+    ∷ Refusals.parityDiffers (recipeOf (twos 1) (twos 2)) (recipeOf (twos 3) []) ∷ Refusals.parityDiffers (recipeOf (twos 1) []) (recipeOf [] [])
+    ∷ Refusals.parityDiffers (recipeOf [] (twos 1)) (recipeOf [] [])
+    ∷ Refusals.productTooHeavy (recipeOf (twos 22) []) (recipeOf [] (twos 22)) ∷ Refusals.productTooHeavy (recipeOf (twos 22) []) (recipeOf (twos 22) (twos 1))
+    -- 14: the example, cut to 6 bytes, with another mark, with another version; cut within the sides; a byte more and a byte less
+    ∷ Refusals.badHead job ∷ Refusals.badHead (part 0 6 job) ∷ Refusals.badHead (part 0 2 job ++ part 1 12 job) ∷ Refusals.badHead (part 0 3 job ++ part 5 9 job)
+    ∷ Refusals.cutShort (part 0 13 job) ∷ Refusals.cutShort (part 0 12 job)
+    ∷ Refusals.otherTotal job ∷ Refusals.otherTotal (part 0 15 job) ∷ Refusals.otherTotal (part 0 13 job)
+    ∷ Refusals.overProgram (replicate 65536 0) ∷ Refusals.overProgram (replicate 65537 0)
+    -- 15
+    ∷ Refusals.outside 2 3 1 2 ∷ Refusals.outside 2 3 2 2 ∷ Refusals.outside 2 3 1 3
+    ∷ []
+    ≡ false ∷ true ∷ true
+    ∷ false ∷ true ∷ true
+    ∷ false ∷ true ∷ true
+    ∷ false ∷ true
+    ∷ false ∷ true ∷ true ∷ true ∷ true
+    ∷ false ∷ true ∷ true
+    ∷ false ∷ true ∷ true
+    ∷ false ∷ true
+    ∷ false ∷ true ∷ true
+    ∷ false ∷ true
+    ∷ false ∷ true ∷ true
+    ∷ false ∷ true
+    ∷ false ∷ true
+    ∷ true
+    ∷ false ∷ true
+    ∷ false ∷ true ∷ true ∷ true
+    ∷ false ∷ true
+    ∷ false ∷ true ∷ true
+    ∷ false ∷ true
+    ∷ false ∷ true ∷ true
+    ∷ []
+unfolding sum tab part total product somewhere order gain fullWidth fullHeight mark version read16 jobRecipe jobWidth jobHeight jobLength Refusals.tooLong Refusals.zeroWidth Refusals.tooFar Refusals.tooHeavy Refusals.badSide Refusals.badSides Refusals.otherPixels Refusals.otherOutput Refusals.tooFewCells Refusals.badState Refusals.rowNotDue Refusals.drainNotDue Refusals.tooBright Refusals.oddApart Refusals.parityDiffers Refusals.productTooHeavy Refusals.badHead Refusals.cutShort Refusals.otherTotal Refusals.overProgram Refusals.outside
+limits = refl
+
+-- rows 1,2,3, columns 2 on a width of 4: the grown width is 7, the rows need 4 cells and cost 3, the columns 1 and 1
+pub one-pass : streamCells (recipeOf (1 ∷ 2 ∷ 3 ∷ []) (2 ∷ [])) 4 ∷ rowCost (recipeOf (1 ∷ 2 ∷ 3 ∷ []) (2 ∷ [])) 4 ∷ [] ≡ 11 ∷ 28 ∷ []
+unfolding total order fullWidth boxCells cascadeCells streamCells boxCost cascadeCost rowCost
+one-pass = refl
+
+-- the example's bytes, written and read
+pub written : jobBytes (recipeOf (twos 2) []) (record { width = 1; height = 1; pixels = 4 ∷ [] }) ≡ job
+unfolding mark version low16 jobBytes
+written = refl
+
+pub read : jobWidth job ∷ jobHeight job ∷ jobOffset job ∷ jobLength (jobRecipe job) 1 1 ∷ jobWidth (part 0 9 job ++ (2 ∷ 1 ∷ [])) ∷ [] ≡ 1 ∷ 1 ∷ 13 ∷ 14 ∷ 258 ∷ []
+unfolding tab part read16 jobRecipe jobWidth jobHeight jobOffset jobLength
+read = refl
