@@ -12,9 +12,9 @@ use borrow.Author.Tests.{lt-ltb, le-ltb, eq-eqb, ne-eqb, ltb-false}
 use Rattle.spec.specs.declared.Filter.{Filter}
 use Rattle.spec.specs.Words.{product}
 use Rattle.spec.specs.Recipe.{Recipe, recipe, widths, order, gain}
-use Rattle.spec.specs.Refusals.{tooLong, zeroWidth, tooFar, tooHeavy, Check, check, first, either, recipeChecks}
+use Rattle.spec.specs.Refusals.{tooLong, zeroWidth, tooFar, tooHeavy, Check, check, first, either, accepted, refused, answer, recipeChecks}
 use Rattle.laws.proofs.Lists.{length-part, product-zero}
-use Rattle.laws.proofs.Refusals.{Accepted, is-accepted, first-front, first-then, recipe-numbered}
+use Rattle.laws.proofs.Refusals.{Accepted, is-accepted, first-front, first-then, recipe-numbered, answer-refused, answer-accepted}
 use Rattle.laws.proofs.Numbers.{zero-factor, cap-times}
 use Rattle.filter.specs.declared.checks.Measures.{Measures}
 use Rattle.filter.proofs.Widths.{length-widths}
@@ -136,12 +136,24 @@ known r m s e =
       accepted = is-accepted r z;
     }
 
--- the checks of a call that begin with a recipe's
-pub measured-refused : (r : Recipe) (m : Measures) → m ≡ measured r → (ds : List Check) → (m .refusal ≡ 0 → ⊥) → first (recipeChecks r ++ ds) ≡ m .refusal
-measured-refused r m s ds h = first-front (recipeChecks r) ds (m .refusal) (sym (number-is r m s)) h
+-- The checks of a call that begin with a recipe's.
+module _ (r : Recipe) (m : Measures) (s : m ≡ measured r) where
+  pub measured-refused : (ds : List Check) → (m .refusal ≡ 0 → ⊥) → first (recipeChecks r ++ ds) ≡ m .refusal
+  measured-refused ds h = first-front (recipeChecks r) ds (m .refusal) (sym (number-is r m s)) h
 
-pub measured-then : (r : Recipe) (m : Measures) → m ≡ measured r → m .refusal ≡ 0 → (b : Bool) (n : ℕ) → first (recipeChecks r ++ check b n ∷ []) ≡ cond b n 0
-measured-then r m s e b n = first-then (recipeChecks r) b n (recipe-numbered r) (sym (number-is r m s) ∙ e)
+  pub measured-then : m .refusal ≡ 0 → (b : Bool) (n : ℕ) → first (recipeChecks r ++ check b n ∷ []) ≡ cond b n 0
+  measured-then e b n = first-then (recipeChecks r) b n (recipe-numbered r) (sym (number-is r m s) ∙ e)
+
+  -- the answer: by the recipe, by one condition b more, or the value
+  pub told-refused : {A : Type 0} (ds : List Check) (a : A) → (m .refusal ≡ 0 → ⊥) → refused (m .refusal) ≡ answer (recipeChecks r ++ ds) a
+  told-refused ds a h = sym (answer-refused (recipeChecks r ++ ds) a (m .refusal) (measured-refused ds h) h)
+
+  pub told-then : {A : Type 0} (b : Bool) (n : ℕ) (a : A) → m .refusal ≡ 0 → b ≡ true → (n ≡ 0 → ⊥)
+      → refused n ≡ answer (recipeChecks r ++ check b n ∷ []) a
+  told-then b n a e p h = sym (answer-refused (recipeChecks r ++ check b n ∷ []) a n (measured-then e b n ∙ ap (λ x. cond x n 0) p) h)
+
+  pub told-accepted : {A : Type 0} (b : Bool) (n : ℕ) (a : A) → m .refusal ≡ 0 → b ≡ false → accepted a ≡ answer (recipeChecks r ++ check b n ∷ []) a
+  told-accepted b n a e p = sym (answer-accepted (recipeChecks r ++ check b n ∷ []) a (measured-then e b n ∙ ap (λ x. cond x n 0) p))
 
 -- the counts of an accepted recipe
 pub known-counts : (f : Filter) {m : Measures} → Known (recipe f) m → (f .rows .count ≤ 48) × (f .columns .count ≤ 48)

@@ -16,6 +16,7 @@ pub mod picture;
 pub mod random;
 pub mod recipe;
 pub mod stream;
+pub mod triangle;
 
 pub use greys::{
     difference, difference_cells, grey, reading, round_row, same_size_blur, same_size_cells,
@@ -29,3 +30,4 @@ pub use recipe::{
     MOST_SIDE, MOST_WEIGHT, MOST_WIDTHS,
 };
 pub use stream::{drain_refusal, row_refusal, start_refusal, Called, Started, State, Stream};
+pub use triangle::TRIANGLE;

@@ -2,22 +2,7 @@
 //! with row 8 as document 01 mends it.
 
 use crate::{columns, rows};
-use reference::{coefficients, direct, weight};
-
-const TRIANGLE: [&[u64]; 12] = [
-    &[1],
-    &[1, 1],
-    &[1, 2, 1],
-    &[1, 3, 3, 1],
-    &[1, 4, 6, 4, 1],
-    &[1, 5, 10, 10, 5, 1],
-    &[1, 6, 15, 20, 15, 6, 1],
-    &[1, 7, 21, 35, 35, 21, 7, 1],
-    &[1, 8, 28, 56, 70, 56, 28, 8, 1],
-    &[1, 9, 36, 84, 126, 126, 84, 36, 9, 1],
-    &[1, 10, 45, 120, 210, 252, 210, 120, 45, 10, 1],
-    &[1, 11, 55, 165, 330, 462, 462, 330, 165, 55, 11, 1],
-];
+use reference::{coefficients, direct, weight, TRIANGLE};
 
 /// The row as the copy of 001 prints it.
 const PRINTED_ROW_8: [u64; 9] = [1, 8, 28, 56, 70, 56, 35, 8, 1];

@@ -1,14 +1,14 @@
 -- `filter::sizes::full_size` meets its contract: the recipe's checks first, then 5, then the sides and the reaches added.
 -- Assumes nothing.
-use mathlib.Core.Path.{_≡_, sym, ap, ap₂, _∙_}
+use mathlib.Core.Path.{_≡_, sym, ap₂, _∙_}
 use Prim.Native.Nat.{ℕ, _+_}
 use native.Mathlib.Omega.{arith}
 use borrow.Author.Needs.{needs}
-use mathlib.Core.Bool.{cond, false}
+use mathlib.Core.Bool.{false}
 use Rattle.spec.specs.Recipe.{recipe}
 use Rattle.spec.specs.Refusals.{badSide, badSides, sizeChecks, Answer, accepted as accepted-as}
-use Rattle.laws.proofs.Refusals.{answer-refused, answer-accepted, good-side, neither}
-use Rattle.filter.proofs.Refusal.{Known, known, measured-refused, measured-then}
+use Rattle.laws.proofs.Refusals.{good-side, neither}
+use Rattle.filter.proofs.Refusal.{Known, known, told-refused, told-then, told-accepted}
 use Rattle.spec.specs.Picture.{Sides, fullWidth, fullHeight, fullSides}
 use Rattle.filter.proofs.sizes.full_size.Statement.{statement}
 use Rattle.filter.proofs.sizes.full_size.Tie as tie
@@ -18,8 +18,7 @@ measure-requires c κs = search needs
 
 returns : tie.Need-returns
 unfolding sizeChecks
-returns c =
-    sym (answer-refused _ _ _ (measured-refused _ _ (c .before .measure .ensures) _ (c .if1 .taken)) (c .if1 .taken))
+returns c = told-refused _ _ (c .before .measure .ensures) _ _ (c .if1 .taken)
 
 bad-sides-requires : tie.Need-bad-sides-requires
 bad-sides-requires c κs = search needs
@@ -27,10 +26,8 @@ bad-sides-requires c κs = search needs
 returns-2 : tie.Need-returns-2
 unfolding sizeChecks
 returns-2 c =
-    let now = c .before .before in
-    sym (answer-refused _ _ 5
-    (measured-then _ _ (now .before .measure .ensures) (now .if1 .left) _ 5 ∙ ap (λ b. cond b 5 0) (sym (c .before .bad-sides .ensures) ∙ c .if2 .taken))
-    (λ e. omega arith))
+    told-then _ _ (c .before .before .before .measure .ensures) _ 5 _ (c .before .before .if1 .left)
+    (sym (c .before .bad-sides .ensures) ∙ c .if2 .taken) (λ e. omega arith)
 
 -- what is known of an accepted recipe and accepted sides
 accepted : (c : tie.Else2) →
@@ -67,9 +64,7 @@ returns-3 c =
     let k = accepted e .reaches in
     let told : ℕ → ℕ → Answer Sides = λ a b. accepted-as (record { width = w + a; height = h + b }) in
     ap₂ told (k .rowReach) (k .columnReach)
-    ∙ sym (answer-accepted _ _
-    (measured-then _ _ (now .measure .ensures) (e .before .before .if1 .left) _ 5
-    ∙ ap (λ b. cond b 5 0) (sym (e .before .bad-sides .ensures) ∙ e .if2 .left)))
+    ∙ told-accepted _ _ (now .measure .ensures) _ 5 _ (e .before .before .if1 .left) (sym (e .before .bad-sides .ensures) ∙ e .if2 .left)
 
 pub full-size-spec : {M : Type 1} → statement M
 full-size-spec =

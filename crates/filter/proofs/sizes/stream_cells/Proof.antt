@@ -4,11 +4,11 @@ use mathlib.Core.Path.{_≡_, sym, ap, ap₂, _∙_}
 use Prim.Native.Nat.{ℕ, _+_, _*_, _≤_}
 use native.Mathlib.Omega.{arith}
 use borrow.Author.Needs.{needs}
-use mathlib.Core.Bool.{cond, false}
+use mathlib.Core.Bool.{false}
 use Rattle.spec.specs.Recipe.{recipe}
 use Rattle.spec.specs.Refusals.{badSide, cellChecks, Answer, accepted as accepted-as}
-use Rattle.laws.proofs.Refusals.{answer-refused, answer-accepted, good-side}
-use Rattle.filter.proofs.Refusal.{Known, known, known-counts, measured-refused, measured-then}
+use Rattle.laws.proofs.Refusals.{good-side}
+use Rattle.filter.proofs.Refusal.{Known, known, known-counts, told-refused, told-then, told-accepted}
 use native.Mathlib.Nat.{mul-le-mul}
 use Rattle.spec.specs.Picture.{fullWidth}
 use Rattle.spec.specs.Stream.{streamCells}
@@ -20,8 +20,7 @@ measure-requires c κs = search needs
 
 returns : tie.Need-returns
 unfolding cellChecks
-returns c =
-    sym (answer-refused _ _ _ (measured-refused _ _ (c .before .measure .ensures) _ (c .if1 .taken)) (c .if1 .taken))
+returns c = told-refused _ _ (c .before .measure .ensures) _ _ (c .if1 .taken)
 
 bad-side-requires : tie.Need-bad-side-requires
 bad-side-requires c κs = search needs
@@ -29,10 +28,8 @@ bad-side-requires c κs = search needs
 returns-2 : tie.Need-returns-2
 unfolding cellChecks
 returns-2 c =
-    let now = c .before .before in
-    sym (answer-refused _ _ 5
-    (measured-then _ _ (now .before .measure .ensures) (now .if1 .left) _ 5 ∙ ap (λ b. cond b 5 0) (sym (c .before .bad-side .ensures) ∙ c .if2 .taken))
-    (λ e. omega arith))
+    told-then _ _ (c .before .before .before .measure .ensures) _ 5 _ (c .before .before .if1 .left)
+    (sym (c .before .bad-side .ensures) ∙ c .if2 .taken) (λ e. omega arith)
 
 -- what is known of an accepted recipe and an accepted width
 accepted : (c : tie.Else2) → let now = c .before .before .before in
@@ -75,7 +72,7 @@ returns-3 c =
     let told : ℕ → ℕ → ℕ → Answer ℕ = λ a b d. accepted-as (a + (w + b) * d) in
     ap₂ (λ a b. told a b (c .before .cascade-cells2 .result)) (c .before .before .cascade-cells .ensures .0) (k .0 .rowReach)
     ∙ ap (told _ _) (c .before .cascade-cells2 .ensures .0)
-    ∙ sym (answer-accepted _ _ (measured-then _ _ (now .measure .ensures) (e .before .before .if1 .left) _ 5 ∙ ap (λ b. cond b 5 0) (k .1)))
+    ∙ told-accepted _ _ (now .measure .ensures) _ 5 _ (e .before .before .if1 .left) (k .1)
 
 pub stream-cells-spec : {M : Type 1} → statement M
 stream-cells-spec =
