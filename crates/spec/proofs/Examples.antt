@@ -1,5 +1,5 @@
 -- Examples of definitions that no ◆ case reaches, each computed: the numbers of each call's checks in their order, each condition on both
--- sides of its limit, the cells and the cost of the one pass, and the bytes of a job.
+-- sides of its limit, and the cells and the cost of the one pass.
 -- Assumes nothing.
 use mathlib.Core.Path.{_≡_, refl}
 use mathlib.Core.Bool.{true, false}
@@ -10,7 +10,7 @@ use Rattle.spec.specs.Words.{sum, tab, part, total, product, somewhere}
 use Rattle.spec.specs.Recipe.{Recipe, order, gain}
 use Rattle.spec.specs.Picture.{Picture, fullWidth, fullHeight}
 use Rattle.spec.specs.Stream.{State, boxCells, cascadeCells, streamCells, boxCost, cascadeCost, rowCost}
-use Rattle.spec.specs.Job.{mark, version, low16, read16, jobBytes, jobLength, jobRecipe, jobWidth, jobHeight, jobOffset}
+use Rattle.spec.specs.Job.{mark, version, read16, jobLength, jobRecipe, jobWidth, jobHeight}
 use Rattle.spec.specs.Refusals
 use Rattle.spec.specs.Refusals.{Check, check}
 
@@ -136,12 +136,3 @@ limits = refl
 pub one-pass : streamCells (recipeOf (1 ∷ 2 ∷ 3 ∷ []) (2 ∷ [])) 4 ∷ rowCost (recipeOf (1 ∷ 2 ∷ 3 ∷ []) (2 ∷ [])) 4 ∷ [] ≡ 11 ∷ 28 ∷ []
 unfolding total order fullWidth boxCells cascadeCells streamCells boxCost cascadeCost rowCost
 one-pass = refl
-
--- the example's bytes, written and read
-pub written : jobBytes (recipeOf (twos 2) []) (record { width = 1; height = 1; pixels = 4 ∷ [] }) ≡ job
-unfolding mark version low16 jobBytes
-written = refl
-
-pub read : jobWidth job ∷ jobHeight job ∷ jobOffset job ∷ jobLength (jobRecipe job) 1 1 ∷ jobWidth (part 0 9 job ++ (2 ∷ 1 ∷ [])) ∷ [] ≡ 1 ∷ 1 ∷ 13 ∷ 14 ∷ 258 ∷ []
-unfolding tab part read16 jobRecipe jobWidth jobHeight jobOffset jobLength
-read = refl

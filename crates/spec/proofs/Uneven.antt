@@ -1,0 +1,218 @@
+-- One uneven case through all definitions: rows 3,2, columns 2, and a picture 3 wide and 2 high. Its numbers are those of the independent
+-- Rust version. And the answer of each call on it, at the lengths that are asked for and one beside each.
+-- Assumes nothing.
+use mathlib.Core.Path.{_≡_, refl}
+use mathlib.Core.List.{List, [], _∷_, _++_, flatten}
+use Prim.Native.Nat.{ℕ}
+use lib.Ieee
+use lib.Ieee.{binary64}
+use lib.IntN.{pos, negsuc}
+use lib.ListN.{replicate, take}
+use Rattle.spec.specs.Words.{sum, tab, part, total, product, somewhere}
+use Rattle.spec.specs.Recipe.{Recipe, box, convolve, kernel, order, gain}
+use Rattle.spec.specs.Picture.{Picture, pixel, pixelBack, fullWidth, fullHeight, fullSides, exact, fullRow, full}
+use Rattle.spec.specs.Stream.{State, boxCells, cascadeCells, streamCells, boxCost, cascadeCost, rowCost}
+use Rattle.spec.specs.Gray
+use Rattle.spec.specs.Gray.{asGray, asSum, asQuotient, grayReading, sumReading, quotientReading}
+use Rattle.spec.specs.Job
+use Rattle.spec.specs.Program
+use Rattle.spec.specs.Refusals
+
+abbrev recipeOf : List ℕ → List ℕ → Recipe
+recipeOf ns ms = record { rows = ns; columns = ms }
+
+abbrev pictureOf : ℕ → ℕ → List ℕ → Picture
+pictureOf w h xs = record { width = w; height = h; pixels = xs }
+
+abbrev uneven : Recipe
+uneven = recipeOf (3 ∷ 2 ∷ []) (2 ∷ [])
+
+abbrev other : Recipe
+other = recipeOf (2 ∷ []) (4 ∷ [])
+
+abbrev wall : Picture
+wall = pictureOf 3 2 (70 ∷ 10 ∷ 20 ∷ 40 ∷ 0 ∷ 90 ∷ [])
+
+abbrev job : List ℕ
+job = 66 ∷ 79 ∷ 82 ∷ 1 ∷ 0 ∷ 2 ∷ 1 ∷ 3 ∷ 2 ∷ 2 ∷ 3 ∷ 0 ∷ 2 ∷ 0 ∷ 70 ∷ 10 ∷ 20 ∷ 40 ∷ 0 ∷ 90 ∷ []
+
+-- the exact sums, 6 to a row
+pub sums :
+    full uneven wall
+    ≡ 70 ∷ 150 ∷ 180 ∷ 130 ∷ 50 ∷ 20
+    ∷ 110 ∷ 230 ∷ 350 ∷ 350 ∷ 230 ∷ 110
+    ∷ 40 ∷ 80 ∷ 170 ∷ 220 ∷ 180 ∷ 90 ∷ []
+unfolding sum tab total box convolve kernel order pixel pixelBack fullWidth fullHeight exact fullRow full flatten
+sums = refl
+
+-- the grown sides, the cells and the cost of the one pass
+pub sides : fullSides uneven 3 2 ≡ record { width = 6; height = 3 }
+unfolding total order fullWidth fullHeight fullSides
+sides = refl
+
+pub one-pass : streamCells uneven 3 ∷ rowCost uneven 3 ∷ [] ≡ 10 ∷ 24 ∷ []
+unfolding total order fullWidth boxCells cascadeCells streamCells boxCost cascadeCost rowCost
+one-pass = refl
+
+-- the same-size blur, and the difference both ways
+pub blurred : Gray.places wall (Gray.sameSum uneven wall) ∷ Gray.places wall (Gray.sameGray uneven wall) ∷ []
+    ≡ (150 ∷ 180 ∷ 130 ∷ 230 ∷ 350 ∷ 350 ∷ []) ∷ (13 ∷ 15 ∷ 11 ∷ 19 ∷ 29 ∷ 29 ∷ []) ∷ []
+unfolding sum tab total product box convolve kernel order gain pixel pixelBack exact flatten Gray.gray Gray.places Gray.sameSum Gray.sameGray
+blurred = refl
+
+pub differences : Gray.places wall (Gray.difference uneven other wall) ∷ Gray.places wall (Gray.difference other uneven wall) ∷ []
+    ≡ (negsuc 0 ∷ pos 0 ∷ negsuc 3 ∷ pos 5 ∷ pos 14 ∷ pos 14 ∷ []) ∷ (pos 1 ∷ pos 0 ∷ pos 4 ∷ negsuc 4 ∷ negsuc 13 ∷ negsuc 13 ∷ []) ∷ []
+unfolding sum tab total product box convolve kernel order gain pixel pixelBack exact flatten Gray.places Gray.sameSum Gray.nearest Gray.nearestDifference Gray.difference
+differences = refl
+
+-- the three readings at column 2, row 0
+pub readings : Gray.reading asGray uneven wall 2 0 ∷ Gray.reading asSum uneven wall 2 0 ∷ Gray.reading asQuotient uneven wall 2 0 ∷ []
+    ≡ grayReading 11 ∷ sumReading 130 ∷ quotientReading (Ieee.ofBits binary64 0x4025_AAAA_AAAA_AAAB) ∷ []
+unfolding sum tab total product box convolve kernel order gain pixel pixelBack exact Gray.gray Gray.sameSum Gray.sameGray Gray.float Gray.ratio Gray.reading Ieee.ofInt Ieee.div Ieee.round Ieee.units Ieee.odd Ieee.size Ieee.climb Ieee.span Ieee.ofBits Ieee.ofFields
+readings = refl
+
+-- the scale card of rows 5, columns 2,2
+pub card : Gray.scaleCard (recipeOf (5 ∷ []) (2 ∷ 2 ∷ []))
+    ≡ record {
+      weight = 20;
+      rowReach = 4;
+      columnReach = 2;
+      rowVariance = Ieee.ofBits binary64 0x4000_0000_0000_0000;
+      columnVariance = Ieee.ofBits binary64 0x3FE0_0000_0000_0000;
+    }
+unfolding total product order gain Gray.squares Gray.variance Gray.float Gray.ratio Gray.scaleCard Ieee.ofInt Ieee.div Ieee.round Ieee.units Ieee.odd Ieee.size Ieee.climb Ieee.span Ieee.ofBits Ieee.ofFields
+card = refl
+
+-- the bytes of the job, written and read, and sides above 255
+pub written : Job.jobBytes uneven wall ≡ job
+unfolding Job.low16 Job.mark Job.version Job.jobBytes
+written = refl
+
+pub read : Job.jobRecipe job ≡ uneven
+unfolding tab part Job.jobRecipe
+read = refl
+
+pub read-picture : Job.jobPicture job ≡ wall
+unfolding Job.read16 Job.jobWidth Job.jobHeight Job.jobOffset Job.jobPicture
+read-picture = refl
+
+pub sixteen-bits : Job.low16 1024 ++ Job.low16 511 ≡ 0 ∷ 4 ∷ 255 ∷ 1 ∷ []
+unfolding Job.low16
+sixteen-bits = refl
+
+-- what the program prints for the job, and for the job with a byte less: `refused 14`
+pub printed :
+    Program.printed job ∷ Program.printed (take 19 job) ∷ []
+    ≡ (54 ∷ 32 ∷ 51 ∷ 32 ∷ 49 ∷ 50 ∷ 10
+    ∷ 55 ∷ 48 ∷ 32 ∷ 49 ∷ 53 ∷ 48 ∷ 32 ∷ 49 ∷ 56 ∷ 48 ∷ 32 ∷ 49 ∷ 51 ∷ 48 ∷ 32 ∷ 53 ∷ 48 ∷ 32 ∷ 50 ∷ 48 ∷ 10
+    ∷ 49 ∷ 49 ∷ 48 ∷ 32 ∷ 50 ∷ 51 ∷ 48 ∷ 32 ∷ 51 ∷ 53 ∷ 48 ∷ 32 ∷ 51 ∷ 53 ∷ 48 ∷ 32 ∷ 50 ∷ 51 ∷ 48 ∷ 32 ∷ 49 ∷ 49 ∷ 48 ∷ 10
+    ∷ 52 ∷ 48 ∷ 32 ∷ 56 ∷ 48 ∷ 32 ∷ 49 ∷ 55 ∷ 48 ∷ 32 ∷ 50 ∷ 50 ∷ 48 ∷ 32 ∷ 49 ∷ 56 ∷ 48 ∷ 32 ∷ 57 ∷ 48 ∷ 10 ∷ [])
+    ∷ (114 ∷ 101 ∷ 102 ∷ 117 ∷ 115 ∷ 101 ∷ 100 ∷ 32 ∷ 49 ∷ 52 ∷ 10 ∷ [])
+    ∷ []
+unfolding sum tab part total product somewhere box convolve kernel order gain pixel pixelBack fullWidth fullHeight exact fullRow flatten boxCells cascadeCells streamCells Job.mark Job.version Job.read16 Job.jobLength Job.jobRecipe Job.jobWidth Job.jobHeight Job.jobOffset Job.jobPicture Refusals.tooLong Refusals.zeroWidth Refusals.tooFar Refusals.tooHeavy Refusals.badSide Refusals.badSides Refusals.tooFewCells Refusals.badHead Refusals.cutShort Refusals.otherTotal Refusals.overProgram Refusals.check Refusals.first Refusals.either Refusals.recipeChecks Refusals.sizeChecks Refusals.jobChecks Refusals.programChecks Program.decimalDigits Program.decimal Program.line Program.sumsPrinted Program.refusalPrinted Program.printed
+printed = refl
+
+-- ---- the answer of each call: 0 at the lengths that are asked for, and the number where one of them is another
+
+abbrev state : ℕ → State
+state k = record { recipe = uneven; width = 3; height = 2; emitted = k }
+
+abbrev stateWith : Recipe → ℕ → ℕ → State
+stateWith r w h = record { recipe = r; width = w; height = h; emitted = 0 }
+
+abbrev twos : ℕ → List ℕ
+twos n = replicate n 2
+
+-- a job with columns 64 on a row of black pixels, with these rows: it needs 8,192 cells with no rows
+abbrev wide : List ℕ → ℕ → List ℕ
+wide ns w = Job.jobBytes (recipeOf ns (64 ∷ [])) (pictureOf w 1 (replicate w 0))
+
+pub answers :
+    -- a picture with a pixel less, and one with the sides exchanged
+    Refusals.first (Refusals.pictureChecks uneven wall)
+    ∷ Refusals.first (Refusals.pictureChecks uneven (pictureOf 3 2 (1 ∷ 2 ∷ 3 ∷ 4 ∷ 5 ∷ [])))
+    ∷ Refusals.first (Refusals.pictureChecks uneven (pictureOf 1025 0 []))
+    ∷ Refusals.first (Refusals.pictureChecks uneven (pictureOf 2 0 []))
+    ∷ Refusals.first (Refusals.pictureChecks uneven (pictureOf 0 2 []))
+    -- one pass: start, row calls, drains
+    ∷ Refusals.first (Refusals.startChecks uneven 3 2 10)
+    ∷ Refusals.first (Refusals.startChecks uneven 3 2 9)
+    ∷ Refusals.first (Refusals.rowChecks (state 0) 3 6 10)
+    ∷ Refusals.first (Refusals.rowChecks (state 0) 2 6 10)
+    ∷ Refusals.first (Refusals.rowChecks (state 0) 3 5 10)
+    ∷ Refusals.first (Refusals.rowChecks (state 0) 3 6 9)
+    ∷ Refusals.first (Refusals.rowChecks (state 2) 3 6 10)
+    ∷ Refusals.first (Refusals.rowChecks (state 4) 3 6 10)
+    ∷ Refusals.first (Refusals.drainChecks (state 2) 6 10)
+    ∷ Refusals.first (Refusals.drainChecks (state 2) 5 10)
+    ∷ Refusals.first (Refusals.drainChecks (state 2) 6 9)
+    ∷ Refusals.first (Refusals.drainChecks (state 1) 6 10)
+    ∷ Refusals.first (Refusals.drainChecks (state 3) 6 10)
+    -- a state with a recipe or a side that would be refused
+    ∷ Refusals.first (Refusals.rowChecks (stateWith (recipeOf (twos 49) []) 3 2) 3 3 99)
+    ∷ Refusals.first (Refusals.rowChecks (stateWith (recipeOf [] (0 ∷ [])) 3 2) 3 3 99)
+    ∷ Refusals.first (Refusals.rowChecks (stateWith (recipeOf [] (255 ∷ 3 ∷ [])) 3 2) 3 3 9999)
+    ∷ Refusals.first (Refusals.rowChecks (stateWith (recipeOf (twos 45) []) 3 2) 3 48 99)
+    ∷ Refusals.first (Refusals.rowChecks (stateWith uneven 1025 2) 1025 1028 9999)
+    ∷ Refusals.first (Refusals.rowChecks (stateWith uneven 3 1025) 3 6 10)
+    -- pass by pass, direct
+    ∷ Refusals.first (Refusals.passChecks uneven wall 18 18)
+    ∷ Refusals.first (Refusals.passChecks uneven wall 17 18)
+    ∷ Refusals.first (Refusals.passChecks uneven wall 18 17)
+    ∷ Refusals.first (Refusals.directChecks uneven wall 4 2 18)
+    ∷ Refusals.first (Refusals.directChecks uneven wall 3 2 18)
+    ∷ Refusals.first (Refusals.directChecks uneven wall 4 1 18)
+    ∷ Refusals.first (Refusals.directChecks uneven wall 4 2 17)
+    -- rounding, same size
+    ∷ Refusals.first (Refusals.roundChecks uneven (3060 ∷ 0 ∷ []) 2)
+    ∷ Refusals.first (Refusals.roundChecks uneven (3061 ∷ 0 ∷ []) 1)
+    ∷ Refusals.first (Refusals.roundChecks uneven (3061 ∷ 0 ∷ []) 2)
+    ∷ Refusals.first (Refusals.sameSizeChecks uneven wall 6 36)
+    ∷ Refusals.first (Refusals.sameSizeChecks uneven wall 5 36)
+    ∷ Refusals.first (Refusals.sameSizeChecks uneven wall 6 35)
+    -- difference: A's numbers before B's, the grown sizes 18 and 20
+    ∷ Refusals.first (Refusals.differenceChecks uneven other wall 6 76)
+    ∷ Refusals.first (Refusals.differenceChecks (recipeOf (0 ∷ []) []) (recipeOf (twos 49) []) wall 6 76)
+    ∷ Refusals.first (Refusals.differenceChecks uneven (recipeOf (twos 49) []) wall 6 76)
+    ∷ Refusals.first (Refusals.differenceChecks uneven other wall 5 76)
+    ∷ Refusals.first (Refusals.differenceChecks uneven other wall 6 75)
+    ∷ Refusals.first (Refusals.differenceChecks uneven (recipeOf [] (2 ∷ [])) wall 6 99)
+    ∷ Refusals.first (Refusals.differenceChecks (recipeOf (twos 22) []) (recipeOf (twos 22) (twos 2)) wall 6 999)
+    ∷ Refusals.first (Refusals.differenceChecks (recipeOf (twos 22) (twos 2)) (recipeOf (twos 22) []) wall 6 999)
+    -- reading, comparing, writing
+    ∷ Refusals.first (Refusals.readingChecks uneven wall 2 1)
+    ∷ Refusals.first (Refusals.readingChecks uneven wall 3 1)
+    ∷ Refusals.first (Refusals.readingChecks uneven wall 2 2)
+    ∷ Refusals.first (Refusals.compareChecks uneven other)
+    ∷ Refusals.first (Refusals.compareChecks (recipeOf (0 ∷ []) []) (recipeOf (twos 49) []))
+    ∷ Refusals.first (Refusals.writeChecks uneven wall 20)
+    ∷ Refusals.first (Refusals.writeChecks uneven wall 21)
+    -- jobs: the lists' counts before they are cut, then the recipe, then the length
+    ∷ Refusals.first (Refusals.jobChecks job)
+    ∷ Refusals.first (Refusals.jobChecks (take 7 job))
+    ∷ Refusals.first (Refusals.jobChecks (take 5 job ++ (49 ∷ 1 ∷ [])))
+    ∷ Refusals.first (Refusals.jobChecks (take 13 job))
+    ∷ Refusals.first (Refusals.jobChecks (take 7 job ++ (0 ∷ 2 ∷ 2 ∷ 0 ∷ 0 ∷ 2 ∷ 0 ∷ [])))
+    ∷ Refusals.first (Refusals.jobChecks (take 10 job ++ (0 ∷ 0 ∷ 2 ∷ 0 ∷ [])))
+    ∷ Refusals.first (Refusals.jobChecks (job ++ (0 ∷ [])))
+    ∷ Refusals.first (Refusals.programChecks (wide [] 128))
+    ∷ Refusals.first (Refusals.programChecks (wide (2 ∷ []) 127))
+    ∷ []
+    ≡ 0 ∷ 6 ∷ 5 ∷ 5 ∷ 5
+    ∷ 0 ∷ 8
+    ∷ 0 ∷ 6 ∷ 7 ∷ 8 ∷ 10 ∷ 9
+    ∷ 0 ∷ 7 ∷ 8 ∷ 10 ∷ 10
+    ∷ 9 ∷ 9 ∷ 9 ∷ 9 ∷ 9 ∷ 9
+    ∷ 0 ∷ 7 ∷ 8
+    ∷ 0 ∷ 7 ∷ 7 ∷ 7
+    ∷ 0 ∷ 7 ∷ 11
+    ∷ 0 ∷ 7 ∷ 8
+    ∷ 0 ∷ 2 ∷ 1 ∷ 7 ∷ 8 ∷ 12 ∷ 13 ∷ 13
+    ∷ 0 ∷ 15 ∷ 15
+    ∷ 0 ∷ 2
+    ∷ 0 ∷ 7
+    ∷ 0 ∷ 14 ∷ 1 ∷ 14 ∷ 2 ∷ 5 ∷ 14
+    ∷ 0 ∷ 8
+    ∷ []
+unfolding sum tab part total product somewhere order gain fullWidth fullHeight boxCells cascadeCells streamCells Job.low16 Job.mark Job.version Job.read16 Job.jobBytes Job.jobLength Job.jobRecipe Job.jobWidth Job.jobHeight Refusals.tooLong Refusals.zeroWidth Refusals.tooFar Refusals.tooHeavy Refusals.badSide Refusals.badSides Refusals.otherPixels Refusals.otherOutput Refusals.tooFewCells Refusals.badState Refusals.rowNotDue Refusals.drainNotDue Refusals.tooBright Refusals.oddApart Refusals.parityDiffers Refusals.productTooHeavy Refusals.badHead Refusals.cutShort Refusals.otherTotal Refusals.overProgram Refusals.outside Refusals.check Refusals.first Refusals.recipeChecks Refusals.sizeChecks Refusals.pictureChecks Refusals.startChecks Refusals.rowChecks Refusals.drainChecks Refusals.fullSize Refusals.passChecks Refusals.directChecks Refusals.roundChecks Refusals.sameSizeChecks Refusals.differenceChecks Refusals.readingChecks Refusals.compareChecks Refusals.jobChecks Refusals.writeChecks Refusals.programChecks
+answers = refl
