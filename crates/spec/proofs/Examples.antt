@@ -100,8 +100,9 @@ pub limits :
     ∷ Refusals.parityDiffers (recipeOf (twos 1) (twos 2)) (recipeOf (twos 3) []) ∷ Refusals.parityDiffers (recipeOf (twos 1) []) (recipeOf [] [])
     ∷ Refusals.parityDiffers (recipeOf [] (twos 1)) (recipeOf [] [])
     ∷ Refusals.productTooHeavy (recipeOf (twos 22) []) (recipeOf [] (twos 22)) ∷ Refusals.productTooHeavy (recipeOf (twos 22) []) (recipeOf (twos 22) (twos 1))
-    -- 14: the example, cut to 6 bytes, with another mark, with another version; cut within the sides; a byte more and a byte less
+    -- 14: the example, cut to 6 bytes, with another third byte, version, first byte, second byte; cut within the sides; a byte more and a byte less
     ∷ Refusals.badHead job ∷ Refusals.badHead (part 0 6 job) ∷ Refusals.badHead (part 0 2 job ++ part 1 12 job) ∷ Refusals.badHead (part 0 3 job ++ part 5 9 job)
+    ∷ Refusals.badHead (0x43 ∷ part 1 13 job) ∷ Refusals.badHead (part 0 1 job ++ part 0 1 job ++ part 2 12 job)
     ∷ Refusals.cutShort (part 0 13 job) ∷ Refusals.cutShort (part 0 12 job)
     ∷ Refusals.otherTotal job ∷ Refusals.otherTotal (part 0 15 job) ∷ Refusals.otherTotal (part 0 13 job)
     ∷ Refusals.overProgram (replicate 65536 0) ∷ Refusals.overProgram (replicate 65537 0)
@@ -124,6 +125,7 @@ pub limits :
     ∷ true
     ∷ false ∷ true
     ∷ false ∷ true ∷ true ∷ true
+    ∷ true ∷ true
     ∷ false ∷ true
     ∷ false ∷ true ∷ true
     ∷ false ∷ true

@@ -45,6 +45,11 @@ pub sums :
 unfolding sum tab total box convolve kernel order pixel pixelBack fullWidth fullHeight exact fullRow full flatten
 sums = refl
 
+-- a picture that is higher than wide
+pub tall : full (recipeOf [] (2 ∷ [])) (pictureOf 1 2 (5 ∷ 7 ∷ [])) ≡ 5 ∷ 12 ∷ 7 ∷ []
+unfolding sum tab total box convolve kernel order pixel pixelBack fullWidth fullHeight exact fullRow full flatten
+tall = refl
+
 -- the grown sides, the cells and the cost of the one pass
 pub sides : fullSides uneven 3 2 ≡ record { width = 6; height = 3 }
 unfolding total order fullWidth fullHeight fullSides
@@ -96,8 +101,8 @@ pub read-picture : Job.jobPicture job ≡ wall
 unfolding Job.read16 Job.jobWidth Job.jobHeight Job.jobOffset Job.jobPicture
 read-picture = refl
 
-pub sixteen-bits : Job.low16 1024 ++ Job.low16 511 ≡ 0 ∷ 4 ∷ 255 ∷ 1 ∷ []
-unfolding Job.low16
+pub sixteen-bits : Job.low16 1024 ++ Job.low16 511 ++ (Job.read16 (255 ∷ 1 ∷ []) 0 ∷ []) ≡ 0 ∷ 4 ∷ 255 ∷ 1 ∷ 511 ∷ []
+unfolding Job.low16 Job.read16
 sixteen-bits = refl
 
 -- what the program prints for the job, and for the job with a byte less: `refused 14`
@@ -111,6 +116,10 @@ pub printed :
     ∷ []
 unfolding sum tab part total product somewhere box convolve kernel order gain pixel pixelBack fullWidth fullHeight exact fullRow flatten boxCells cascadeCells streamCells Job.mark Job.version Job.read16 Job.jobLength Job.jobRecipe Job.jobWidth Job.jobHeight Job.jobOffset Job.jobPicture Refusals.tooLong Refusals.zeroWidth Refusals.tooFar Refusals.tooHeavy Refusals.badSide Refusals.badSides Refusals.tooFewCells Refusals.badHead Refusals.cutShort Refusals.otherTotal Refusals.overProgram Refusals.check Refusals.first Refusals.either Refusals.recipeChecks Refusals.sizeChecks Refusals.jobChecks Refusals.programChecks Program.decimalDigits Program.decimal Program.line Program.sumsPrinted Program.refusalPrinted Program.printed
 printed = refl
+
+pub ten : Program.decimal 10 ≡ 49 ∷ 48 ∷ []
+unfolding Program.decimalDigits Program.decimal
+ten = refl
 
 -- ---- the answer of each call: 0 at the lengths that are asked for, and the number where one of them is another
 
