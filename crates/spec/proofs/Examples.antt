@@ -1,12 +1,13 @@
 -- Examples of definitions that no ◆ case reaches, each computed: the numbers of each call's checks in their order, each condition on both
--- sides of its limit, and the cells and the cost of the one pass.
+-- sides of its limit, the cells and the cost of the one pass, and counts of widths.
 -- Assumes nothing.
 use mathlib.Core.Path.{_≡_, refl}
 use mathlib.Core.Bool.{true, false}
 use mathlib.Core.List.{List, [], _∷_, _++_, map}
 use Prim.Native.Nat.{ℕ}
 use lib.ListN.{replicate}
-use Rattle.spec.specs.Words.{sum, tab, part, total, product, somewhere}
+use Rattle.spec.specs.Words.{sum, tab, part, total, product, somewhere, keep, occurs}
+use Rattle.spec.specs.Same.{struck}
 use Rattle.spec.specs.Recipe.{Recipe, order, gain}
 use Rattle.spec.specs.Picture.{Picture, fullWidth, fullHeight}
 use Rattle.spec.specs.Stream.{State, boxCells, cascadeCells, streamCells, boxCost, cascadeCost, rowCost}
@@ -138,3 +139,8 @@ limits = refl
 pub one-pass : streamCells (recipeOf (1 ∷ 2 ∷ 3 ∷ []) (2 ∷ [])) 4 ∷ rowCost (recipeOf (1 ∷ 2 ∷ 3 ∷ []) (2 ∷ [])) 4 ∷ [] ≡ 11 ∷ 28 ∷ []
 unfolding total order fullWidth boxCells cascadeCells streamCells boxCost cascadeCost rowCost
 one-pass = refl
+
+-- how often a width occurs, with widths of 1 struck out and without
+pub counted : occurs 2 (2 ∷ 1 ∷ 3 ∷ 2 ∷ []) ∷ occurs 1 (struck (2 ∷ 1 ∷ [])) ∷ occurs 2 (struck (2 ∷ 1 ∷ [])) ∷ [] ≡ 2 ∷ 0 ∷ 1 ∷ []
+unfolding total keep occurs struck
+counted = refl

@@ -1,5 +1,5 @@
 -- One uneven case through all definitions: rows 3,2, columns 2, and a picture 3 wide and 2 high. Its numbers are those of the independent
--- Rust version. And the answer of each call on it, at the lengths that are asked for and one beside each.
+-- Rust version. And the answer of each call on it, worked out by hand, at the lengths that are asked for and one beside each.
 -- Assumes nothing.
 use mathlib.Core.Path.{_≡_, refl}
 use mathlib.Core.List.{List, [], _∷_, _++_, flatten}
