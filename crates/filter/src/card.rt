@@ -9,7 +9,7 @@ use crate::checks::measure;
 use spec::Cascade;
 use spec::Filter;
 
-// n times n - 1 for n of 1 to 255.
+// n * n - 1 for n of 1 to 255.
 const SQUARES: [u16; 255] = [
     0,
     3,
@@ -283,7 +283,7 @@ pub enum Card {
     Refused(u8),
 }
 
-// n times n - 1, from the table.
+// n * n - 1, from the table.
 fn square(n: u8) -> u64
     ensures { λ r. ⌜ (r ≡ n * n - 1) × (r ≤ 65024) ⌝ }
 {
@@ -294,7 +294,7 @@ fn square(n: u8) -> u64
     SQUARES[k] as u64
 }
 
-// The sum of n times n - 1 over a cascade.
+// The sum of n * n - 1 over a cascade.
 fn squares(list: Cascade) -> u64
     requires { ⌜ list .count ≤ 48 ⌝ }
     ensures { λ r. ⌜ (r ≡ squaresOf (widths list)) × (r ≤ 65024 * 48) ⌝ }

@@ -19,10 +19,6 @@ use Rattle.laws.proofs.Convolution.{conv, ones, conv-agree, boxed-conv}
 unfoldable pub at : List ℕ → ℕ → ℕ
 at xs k = getD xs k 0
 
-pub at-past : (xs : List ℕ) (k : ℕ) → length xs ≤ k → at xs k ≡ 0
-unfolding at
-at-past xs k h = List·getD-eq-default xs 0 h
-
 pub at-box : (n k : ℕ) → at (box n) k ≡ ones n k
 unfolding at box ones
 at-box n k =

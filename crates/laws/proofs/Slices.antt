@@ -36,8 +36,10 @@ module _ {A : Type 0} where
         let g : i < length front = omega arith in
         rw (add-one i, take-suc front i d g) (append-snoc (take i front) (getD front i d) (drop (suc i) back))
 
-    set-mixed : (x y : A) → set (take i front ++ x ∷ drop (suc i) back) i y ≡ take i front ++ y ∷ drop (suc i) back
-    set-mixed x y = set-at (take i front) x (drop (suc i) back) y i (length-take-le i front (omega arith))
+    -- what a list becomes that has x there, once y is stored
+    set-mixed : (l : List A) (x y : A) → l ≡ take i front ++ x ∷ drop (suc i) back → set l i y ≡ take i front ++ y ∷ drop (suc i) back
+    set-mixed l x y p =
+        ap (λ m. set m i y) p ∙ set-at (take i front) x (drop (suc i) back) y i (length-take-le i front (omega arith))
 
   -- l is the front of one list up to i and the back of another from i on
   pub record Mixed (i : ℕ) (front back l : List A) : Type 0 where
@@ -86,27 +88,15 @@ module _ {A : Type 0} where
   -- one entry more, from the left and from the right
   pub mixed-up : (d : A) {i : ℕ} {front back l : List A} → Mixed i front back l → i < length back
       → Mixed (i + 1) front back (set l i (getD front i d))
-  mixed-up d {i} {front} {back} m h =
-      record {
-        size = m .size;
-        inside = omega arith;
-        is =
-            ap (λ l. set l i (getD front i d)) (m .is ∙ mix-here d i front back (m .size) h)
-            ∙ set-mixed d i front back (m .size) h (getD back i d) (getD front i d)
-            ∙ sym (mix-next d i front back (m .size) h);
-      }
+  mixed-up d {i} {front} {back} {l} m h =
+      let e = set-mixed d i front back (m .size) h l _ (getD front i d) (m .is ∙ mix-here d i front back (m .size) h) in
+      record { size = m .size; inside = omega arith; is = e ∙ sym (mix-next d i front back (m .size) h) }
 
   pub mixed-down : (d : A) (i : ℕ) {front back l : List A} → Mixed (i + 1) front back l → Mixed i front back (set l i (getD back i d))
-  mixed-down d i {front} {back} m =
+  mixed-down d i {front} {back} {l} m =
       let h : i < length back = omega (arith, m .inside) in
-      record {
-        size = m .size;
-        inside = omega arith;
-        is =
-            ap (λ l. set l i (getD back i d)) (m .is ∙ mix-next d i front back (m .size) h)
-            ∙ set-mixed d i front back (m .size) h (getD front i d) (getD back i d)
-            ∙ sym (mix-here d i front back (m .size) h);
-      }
+      let e = set-mixed d i front back (m .size) h l _ (getD back i d) (m .is ∙ mix-next d i front back (m .size) h) in
+      record { size = m .size; inside = omega arith; is = e ∙ sym (mix-here d i front back (m .size) h) }
 
   -- all is written from the left
   pub mixed-all : {i : ℕ} {front back l : List A} → Mixed i front back l → length back ≤ i → l ≡ front

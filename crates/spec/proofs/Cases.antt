@@ -8,17 +8,17 @@ use lib.Ieee
 use Rattle.spec.specs.Words.{sum, tab, part, total, product, somewhere, everywhere, keep, occurs}
 use Rattle.spec.specs.Recipe.{box, convolve, kernel, order, gain}
 use Rattle.spec.specs.Picture.{pixel, pixelBack, exact, fullWidth, fullHeight, fullRow, full}
-use Rattle.spec.specs.Gray.{gray, places, sameSum, sameGray, nearest, nearestDifference, difference, float, ratio, squares, variance}
+use Rattle.spec.specs.Gray.{gray, places, sameColumn, sameRow, sameSum, sameGray, nearest, nearestDifference, difference, float, ratio, sameQuotient, squares, variance}
 use Rattle.spec.specs.Same.{struck, sameCounts, equivalent}
 use Rattle.spec.specs.Stream.{boxCells, cascadeCells, streamCells}
 use Rattle.spec.specs.Job.{mark, version, read16, jobRecipe, jobWidth, jobHeight, jobOffset, jobLength, jobPicture}
-use Rattle.spec.specs.Refusals.{tooLong, zeroWidth, tooFar, tooHeavy, badSide, badSides, tooFewCells, badHead, cutShort, otherTotal, overProgram, check, first, either, recipeChecks, sizeChecks, jobChecks, programChecks}
+use Rattle.spec.specs.Refusals.{tooLong, zeroWidth, tooFar, tooHeavy, badSide, badSides, tooFewCells, badHead, cutShort, otherTotal, overProgram, alone, check, first, either, recipeChecks, sizeChecks, jobChecks, programChecks}
 use Rattle.spec.specs.Program.{decimalDigits, decimal, line, sumsPrinted, printed}
-use Rattle.spec.specs.Cases.{Case, numbers, output, along, both, picture, twos, table}
+use Rattle.spec.specs.Cases.{Case, numbers, output, table, exampleJob}
 
 -- the test over the whole table
 all : map (λ (c : Case). output (c .question)) table ≡ map (λ (c : Case). c .expected) table
-unfolding sum tab total product everywhere keep occurs box convolve kernel order gain pixel pixelBack exact fullWidth fullHeight fullRow full flatten gray places sameSum sameGray nearest nearestDifference difference float ratio squares variance struck sameCounts equivalent numbers output along both picture twos table Ieee.toBits Ieee.ofInt Ieee.div Ieee.round Ieee.units Ieee.odd Ieee.size Ieee.climb Ieee.span
+unfolding sum tab total product everywhere keep occurs box convolve kernel order gain pixel pixelBack exact fullWidth fullHeight fullRow full flatten gray places sameColumn sameRow sameSum sameGray nearest nearestDifference difference float ratio sameQuotient squares variance struck sameCounts equivalent numbers output alone table Ieee.toBits Ieee.ofInt Ieee.div Ieee.round Ieee.units Ieee.odd Ieee.size Ieee.climb Ieee.span
 all = refl
 
 -- where two functions agree over a list, they agree at each member
@@ -35,7 +35,7 @@ holds = at-member (λ (c : Case). output (c .question)) (λ (c : Case). c .expec
 
 -- document 01's example of a job prints the two lines `3 1 4` and `4 8 4`
 pub example-printed :
-    printed (0x42 ∷ 0x4F ∷ 0x52 ∷ 0x01 ∷ 0x00 ∷ 0x02 ∷ 0x00 ∷ 0x02 ∷ 0x02 ∷ 0x01 ∷ 0x00 ∷ 0x01 ∷ 0x00 ∷ 0x04 ∷ [])
+    printed exampleJob
     ≡ 51 ∷ 32 ∷ 49 ∷ 32 ∷ 52 ∷ 10 ∷ 52 ∷ 32 ∷ 56 ∷ 32 ∷ 52 ∷ 10 ∷ []
 unfolding printed sumsPrinted line decimal decimalDigits first either programChecks check overProgram jobChecks badHead mark version read16 tooLong zeroWidth tooFar tooHeavy badSide badSides cutShort otherTotal tooFewCells sizeChecks recipeChecks streamCells cascadeCells boxCells jobRecipe jobWidth jobHeight jobOffset jobLength jobPicture sum tab part total product somewhere box convolve kernel order gain pixel pixelBack exact fullWidth fullHeight fullRow flatten
 example-printed = refl

@@ -12,6 +12,7 @@ use Rattle.spec.specs.Recipe.{Recipe, order, gain}
 use Rattle.spec.specs.Picture.{Picture, fullWidth, fullHeight}
 use Rattle.spec.specs.Stream.{State, boxCells, cascadeCells, streamCells, boxCost, cascadeCost, rowCost}
 use Rattle.spec.specs.Job.{mark, version, read16, jobLength, jobRecipe, jobWidth, jobHeight}
+use Rattle.spec.specs.Cases.{recipeOf, twos, exampleJob}
 use Rattle.spec.specs.Refusals
 use Rattle.spec.specs.Refusals.{Check, check}
 
@@ -60,19 +61,9 @@ module _ (r q : Recipe) (p : Picture) (s : State) (xs : List ℕ) (k m n : ℕ) 
   unfolding check Refusals.recipeChecks Refusals.kernelChecks Refusals.sizeChecks Refusals.cellChecks Refusals.pictureChecks Refusals.startChecks Refusals.rowChecks Refusals.drainChecks Refusals.passChecks Refusals.directChecks Refusals.roundChecks Refusals.sameSizeChecks Refusals.differenceChecks Refusals.readingChecks Refusals.compareChecks Refusals.jobChecks Refusals.writeChecks Refusals.programChecks
   orders = refl
 
--- a recipe with these lists, and a state of it on a picture of 2 by 3
-abbrev recipeOf : List ℕ → List ℕ → Recipe
-recipeOf ns ms = record { rows = ns; columns = ms }
-
+-- a state of a recipe on a picture of 2 by 3
 abbrev stateOf : List ℕ → List ℕ → ℕ → State
 stateOf ns ms k = record { recipe = recipeOf ns ms; width = 2; height = 3; emitted = k }
-
-abbrev twos : ℕ → List ℕ
-twos n = replicate n 2
-
--- the job of document 01's example
-abbrev job : List ℕ
-job = 0x42 ∷ 0x4F ∷ 0x52 ∷ 0x01 ∷ 0x00 ∷ 0x02 ∷ 0x00 ∷ 0x02 ∷ 0x02 ∷ 0x01 ∷ 0x00 ∷ 0x01 ∷ 0x00 ∷ 0x04 ∷ []
 
 -- each condition, first where it just does not hold, then where it just does
 pub limits :
@@ -102,10 +93,10 @@ pub limits :
     ∷ Refusals.parityDiffers (recipeOf [] (twos 1)) (recipeOf [] [])
     ∷ Refusals.productTooHeavy (recipeOf (twos 22) []) (recipeOf [] (twos 22)) ∷ Refusals.productTooHeavy (recipeOf (twos 22) []) (recipeOf (twos 22) (twos 1))
     -- 14: the example, cut to 6 bytes, with another third byte, version, first byte, second byte; cut within the sides; a byte more and a byte less
-    ∷ Refusals.badHead job ∷ Refusals.badHead (part 0 6 job) ∷ Refusals.badHead (part 0 2 job ++ part 1 12 job) ∷ Refusals.badHead (part 0 3 job ++ part 5 9 job)
-    ∷ Refusals.badHead (0x43 ∷ part 1 13 job) ∷ Refusals.badHead (part 0 1 job ++ part 0 1 job ++ part 2 12 job)
-    ∷ Refusals.cutShort (part 0 13 job) ∷ Refusals.cutShort (part 0 12 job)
-    ∷ Refusals.otherTotal job ∷ Refusals.otherTotal (part 0 15 job) ∷ Refusals.otherTotal (part 0 13 job)
+    ∷ Refusals.badHead exampleJob ∷ Refusals.badHead (part 0 6 exampleJob) ∷ Refusals.badHead (part 0 2 exampleJob ++ part 1 12 exampleJob) ∷ Refusals.badHead (part 0 3 exampleJob ++ part 5 9 exampleJob)
+    ∷ Refusals.badHead (0x43 ∷ part 1 13 exampleJob) ∷ Refusals.badHead (part 0 1 exampleJob ++ part 0 1 exampleJob ++ part 2 12 exampleJob)
+    ∷ Refusals.cutShort (part 0 13 exampleJob) ∷ Refusals.cutShort (part 0 12 exampleJob)
+    ∷ Refusals.otherTotal exampleJob ∷ Refusals.otherTotal (part 0 15 exampleJob) ∷ Refusals.otherTotal (part 0 13 exampleJob)
     ∷ Refusals.overProgram (replicate 65536 0) ∷ Refusals.overProgram (replicate 65537 0)
     -- 15
     ∷ Refusals.outside 2 3 1 2 ∷ Refusals.outside 2 3 2 2 ∷ Refusals.outside 2 3 1 3

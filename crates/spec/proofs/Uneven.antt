@@ -11,19 +11,15 @@ use lib.ListN.{replicate, take}
 use Rattle.spec.specs.Words.{sum, tab, part, total, product, somewhere}
 use Rattle.spec.specs.Recipe.{Recipe, box, convolve, kernel, order, gain}
 use Rattle.spec.specs.Picture.{Picture, pixel, pixelBack, fullWidth, fullHeight, fullSides, exact, fullRow, full}
-use Rattle.spec.specs.Stream.{State, boxCells, cascadeCells, streamCells, boxCost, cascadeCost, rowCost}
+use Rattle.spec.specs.Stream.{State, boxCells, cascadeCells, streamCells}
 use Rattle.spec.specs.Gray
 use Rattle.spec.specs.Gray.{asGray, asSum, asQuotient, grayReading, sumReading, quotientReading}
+use Rattle.spec.specs.Cases.{recipeOf, picture, twos}
 use Rattle.spec.specs.Job
 use Rattle.spec.specs.Program
 use Rattle.spec.specs.Refusals
 
-abbrev recipeOf : List ℕ → List ℕ → Recipe
-recipeOf ns ms = record { rows = ns; columns = ms }
-
-abbrev pictureOf : ℕ → ℕ → List ℕ → Picture
-pictureOf w h xs = record { width = w; height = h; pixels = xs }
-
+-- the recipe, one to take a difference with, the picture, and the bytes of the job
 abbrev uneven : Recipe
 uneven = recipeOf (3 ∷ 2 ∷ []) (2 ∷ [])
 
@@ -31,7 +27,7 @@ abbrev other : Recipe
 other = recipeOf (2 ∷ []) (4 ∷ [])
 
 abbrev wall : Picture
-wall = pictureOf 3 2 (70 ∷ 10 ∷ 20 ∷ 40 ∷ 0 ∷ 90 ∷ [])
+wall = picture 3 2 (70 ∷ 10 ∷ 20 ∷ 40 ∷ 0 ∷ 90 ∷ [])
 
 abbrev job : List ℕ
 job = 66 ∷ 79 ∷ 82 ∷ 1 ∷ 0 ∷ 2 ∷ 1 ∷ 3 ∷ 2 ∷ 2 ∷ 3 ∷ 0 ∷ 2 ∷ 0 ∷ 70 ∷ 10 ∷ 20 ∷ 40 ∷ 0 ∷ 90 ∷ []
@@ -46,34 +42,30 @@ unfolding sum tab total box convolve kernel order pixel pixelBack fullWidth full
 sums = refl
 
 -- a picture that is higher than wide
-pub tall : full (recipeOf [] (2 ∷ [])) (pictureOf 1 2 (5 ∷ 7 ∷ [])) ≡ 5 ∷ 12 ∷ 7 ∷ []
+pub tall : full (recipeOf [] (2 ∷ [])) (picture 1 2 (5 ∷ 7 ∷ [])) ≡ 5 ∷ 12 ∷ 7 ∷ []
 unfolding sum tab total box convolve kernel order pixel pixelBack fullWidth fullHeight exact fullRow full flatten
 tall = refl
 
--- the grown sides, the cells and the cost of the one pass
+-- the grown sides
 pub sides : fullSides uneven 3 2 ≡ record { width = 6; height = 3 }
 unfolding total order fullWidth fullHeight fullSides
 sides = refl
 
-pub one-pass : streamCells uneven 3 ∷ rowCost uneven 3 ∷ [] ≡ 10 ∷ 24 ∷ []
-unfolding total order fullWidth boxCells cascadeCells streamCells boxCost cascadeCost rowCost
-one-pass = refl
-
 -- the same-size blur, and the difference both ways
 pub blurred : Gray.places wall (Gray.sameSum uneven wall) ∷ Gray.places wall (Gray.sameGray uneven wall) ∷ []
     ≡ (150 ∷ 180 ∷ 130 ∷ 230 ∷ 350 ∷ 350 ∷ []) ∷ (13 ∷ 15 ∷ 11 ∷ 19 ∷ 29 ∷ 29 ∷ []) ∷ []
-unfolding sum tab total product box convolve kernel order gain pixel pixelBack exact flatten Gray.gray Gray.places Gray.sameSum Gray.sameGray
+unfolding sum tab total product box convolve kernel order gain pixel pixelBack exact flatten Gray.gray Gray.places Gray.sameColumn Gray.sameRow Gray.sameSum Gray.sameGray
 blurred = refl
 
 pub differences : Gray.places wall (Gray.difference uneven other wall) ∷ Gray.places wall (Gray.difference other uneven wall) ∷ []
     ≡ (negsuc 0 ∷ pos 0 ∷ negsuc 3 ∷ pos 5 ∷ pos 14 ∷ pos 14 ∷ []) ∷ (pos 1 ∷ pos 0 ∷ pos 4 ∷ negsuc 4 ∷ negsuc 13 ∷ negsuc 13 ∷ []) ∷ []
-unfolding sum tab total product box convolve kernel order gain pixel pixelBack exact flatten Gray.places Gray.sameSum Gray.nearest Gray.nearestDifference Gray.difference
+unfolding sum tab total product box convolve kernel order gain pixel pixelBack exact flatten Gray.places Gray.sameColumn Gray.sameRow Gray.sameSum Gray.nearest Gray.nearestDifference Gray.difference
 differences = refl
 
 -- the three readings at column 2, row 0
 pub readings : Gray.reading asGray uneven wall 2 0 ∷ Gray.reading asSum uneven wall 2 0 ∷ Gray.reading asQuotient uneven wall 2 0 ∷ []
     ≡ grayReading 11 ∷ sumReading 130 ∷ quotientReading (Ieee.ofBits binary64 0x4025_AAAA_AAAA_AAAB) ∷ []
-unfolding sum tab total product box convolve kernel order gain pixel pixelBack exact Gray.gray Gray.sameSum Gray.sameGray Gray.float Gray.ratio Gray.reading Ieee.ofInt Ieee.div Ieee.round Ieee.units Ieee.odd Ieee.size Ieee.climb Ieee.span Ieee.ofBits Ieee.ofFields
+unfolding sum tab total product box convolve kernel order gain pixel pixelBack exact Gray.gray Gray.sameColumn Gray.sameRow Gray.sameSum Gray.sameGray Gray.float Gray.ratio Gray.sameQuotient Gray.reading Ieee.ofInt Ieee.div Ieee.round Ieee.units Ieee.odd Ieee.size Ieee.climb Ieee.span Ieee.ofBits Ieee.ofFields
 readings = refl
 
 -- the scale card of rows 5, columns 2,2
@@ -129,20 +121,17 @@ state k = record { recipe = uneven; width = 3; height = 2; emitted = k }
 abbrev stateWith : Recipe → ℕ → ℕ → State
 stateWith r w h = record { recipe = r; width = w; height = h; emitted = 0 }
 
-abbrev twos : ℕ → List ℕ
-twos n = replicate n 2
-
 -- a job with columns 64 on a row of black pixels, with these rows: it needs 8,192 cells with no rows
 abbrev wide : List ℕ → ℕ → List ℕ
-wide ns w = Job.jobBytes (recipeOf ns (64 ∷ [])) (pictureOf w 1 (replicate w 0))
+wide ns w = Job.jobBytes (recipeOf ns (64 ∷ [])) (picture w 1 (replicate w 0))
 
 pub answers :
     -- a picture with a pixel less, and one with the sides exchanged
     Refusals.first (Refusals.pictureChecks uneven wall)
-    ∷ Refusals.first (Refusals.pictureChecks uneven (pictureOf 3 2 (1 ∷ 2 ∷ 3 ∷ 4 ∷ 5 ∷ [])))
-    ∷ Refusals.first (Refusals.pictureChecks uneven (pictureOf 1025 0 []))
-    ∷ Refusals.first (Refusals.pictureChecks uneven (pictureOf 2 0 []))
-    ∷ Refusals.first (Refusals.pictureChecks uneven (pictureOf 0 2 []))
+    ∷ Refusals.first (Refusals.pictureChecks uneven (picture 3 2 (1 ∷ 2 ∷ 3 ∷ 4 ∷ 5 ∷ [])))
+    ∷ Refusals.first (Refusals.pictureChecks uneven (picture 1025 0 []))
+    ∷ Refusals.first (Refusals.pictureChecks uneven (picture 2 0 []))
+    ∷ Refusals.first (Refusals.pictureChecks uneven (picture 0 2 []))
     -- one pass: start, row calls, drains
     ∷ Refusals.first (Refusals.startChecks uneven 3 2 10)
     ∷ Refusals.first (Refusals.startChecks uneven 3 2 9)

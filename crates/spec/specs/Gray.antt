@@ -18,8 +18,15 @@ unfoldable pub places {ℓ} : {A : Type ℓ} → Picture → (ℕ → ℕ → A)
 places p f = flatten (tab (p .height) (λ j. tab (p .width) (λ i. f i j)))
 
 -- Same-size blur: for picture place (i, j) it takes grown place (i + rx / 2, j + ry / 2), halves downwards.
+unfoldable pub sameColumn : Recipe → ℕ → ℕ
+sameColumn r i = i + order (r .rows) / 2
+
+unfoldable pub sameRow : Recipe → ℕ → ℕ
+sameRow r j = j + order (r .columns) / 2
+
+-- the sum and the grey that it has there
 unfoldable pub sameSum : Recipe → Picture → ℕ → ℕ → ℕ
-sameSum r p i j = exact r p (i + order (r .rows) / 2) (j + order (r .columns) / 2)
+sameSum r p i j = exact r p (sameColumn r i) (sameRow r j)
 
 unfoldable pub sameGray : Recipe → Picture → ℕ → ℕ → ℕ
 sameGray r p i j = gray (gain r) (sameSum r p i j)
@@ -43,6 +50,10 @@ float n = ofInt binary64 (pos n)
 unfoldable pub ratio : ℕ → ℕ → Float
 ratio m d = div binary64 (float m) (float d)
 
+-- the quotient sum / weight at a picture place, from the sum of the same-size blur
+unfoldable pub sameQuotient : Recipe → Picture → ℕ → ℕ → Float
+sameQuotient r p i j = ratio (sameSum r p i j) (gain r)
+
 -- Reading at one picture place, from the sum of the same-size blur: the grey, the exact sum, or the quotient sum / weight.
 pub data Reading : Type 0 where
   grayReading : ℕ → Reading
@@ -56,7 +67,7 @@ pub data Choice : Type 0 where
 unfoldable pub reading : Choice → Recipe → Picture → ℕ → ℕ → Reading
 reading asGray r p i j = grayReading (sameGray r p i j)
 reading asSum r p i j = sumReading (sameSum r p i j)
-reading asQuotient r p i j = quotientReading (ratio (sameSum r p i j) (gain r))
+reading asQuotient r p i j = quotientReading (sameQuotient r p i j)
 
 -- Variance of a list: the sum of (n times n - 1), divided by 12 once.
 unfoldable pub squares : List ℕ → ℕ
