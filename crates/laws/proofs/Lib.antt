@@ -5,4 +5,6 @@ pub mod Slices
 pub mod Sequences
 pub mod Convolution
 pub mod Kernels
+pub mod Cascades
+pub mod Exact
 pub mod Refusals

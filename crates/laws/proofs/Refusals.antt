@@ -1,17 +1,18 @@
 -- The first condition that holds, in a list of conditions and in a part of it, and what is known of a recipe that is accepted.
 -- Assumes nothing.
 use mathlib.Core.Path.{_≡_, refl, sym, ap₂, _∙_}
-use mathlib.Core.Bool.{Bool, true, false, cond, _||_, true≢false}
+use mathlib.Core.Bool.{Bool, true, false, not, cond, _||_, true≢false}
 use mathlib.Core.List.{List, [], _∷_, _++_}
 use Prim.Native.Nat.{ℕ, zero, suc, _*_, _^_, _≤_, _<_}
 use native.Mathlib.Nat.{pos-of-ne-zero}
 use native.Mathlib.Omega.{arith}
 use lib.Dec.{eqb, ltb}
 use lib.ListN.{length}
-use borrow.Author.Tests.{ltb-false, eqb-false}
+use borrow.Author.Tests.{ltb-false, eqb-false, eqb-true}
 use Rattle.spec.specs.Words.{product}
 use Rattle.spec.specs.Recipe.{Recipe, order, gain}
-use Rattle.spec.specs.Refusals.{Check, check, first, either, accepted, refused, answer, lent, badSide, tooLong, zeroWidth, tooFar, tooHeavy, recipeChecks}
+use Rattle.spec.specs.Picture.{Picture}
+use Rattle.spec.specs.Refusals.{Check, check, first, either, accepted, refused, answer, lent, badSide, badSides, otherPixels, tooLong, zeroWidth, tooFar, tooHeavy, recipeChecks, sizeChecks, pictureChecks}
 use Rattle.laws.proofs.Lists.{product-zero}
 use Rattle.laws.proofs.Numbers.{zero-factor}
 
@@ -37,6 +38,16 @@ first-rest (c ∷ cs) ds k e = go (c .holds) e (first-rest cs ds (k .1))
   where
     go : (b : Bool) → cond b (c .number) (first cs) ≡ 0 → (first cs ≡ 0 → first (cs ++ ds) ≡ first ds)
         → cond b (c .number) (first (cs ++ ds)) ≡ first ds
+    go true p next = absurd (omega (arith, k .0))
+    go false p next = next p
+
+pub none-both : (cs ds : List Check) → Numbered cs → first (cs ++ ds) ≡ 0 → (first cs ≡ 0) × (first ds ≡ 0)
+unfolding first
+none-both [] ds k e = (refl, e)
+none-both (c ∷ cs) ds k e = go (c .holds) e (none-both cs ds (k .1))
+  where
+    go : (b : Bool) → cond b (c .number) (first (cs ++ ds)) ≡ 0 → (first (cs ++ ds) ≡ 0 → (first cs ≡ 0) × (first ds ≡ 0))
+        → (cond b (c .number) (first cs) ≡ 0) × (first ds ≡ 0)
     go true p next = absurd (omega (arith, k .0))
     go false p next = next p
 
@@ -130,3 +141,53 @@ unfolding badSide
 good-side n e =
     let h = neither (eqb n 0) (ltb 1024 n) e in
     (pos-of-ne-zero (eqb-false n 0 (h .0)), ltb-false 1024 n (h .1))
+
+pub numbered-more : (cs : List Check) (b : Bool) (n : ℕ) → Numbered cs → Numbered (cs ++ check b (suc n) ∷ [])
+unfolding check
+numbered-more [] b n k = (omega arith, tt)
+numbered-more (c ∷ cs) b n k = (k .0, numbered-more cs b n (k .1))
+
+pub size-numbered : (r : Recipe) (w h : ℕ) → Numbered (sizeChecks r w h)
+unfolding sizeChecks
+size-numbered r w h = numbered-more (recipeChecks r) (badSides w h) 4 (recipe-numbered r)
+
+pub picture-numbered : (r : Recipe) (p : Picture) → Numbered (pictureChecks r p)
+unfolding pictureChecks
+picture-numbered r p =
+    numbered-more (sizeChecks r (p .width) (p .height)) (otherPixels (length (p .pixels)) (p .width * p .height)) 5
+    (size-numbered r (p .width) (p .height))
+
+-- sides to which 5 does not apply
+pub record Sized (w h : ℕ) : Type 0 where
+  pub width : (0 < w) × (w ≤ 1024)
+  pub height : (0 < h) × (h ≤ 1024)
+
+pub is-sized : (r : Recipe) (w h : ℕ) → first (sizeChecks r w h) ≡ 0 → Accepted r × Sized w h
+unfolding sizeChecks badSides
+is-sized r w h e =
+    let both = none-both (recipeChecks r) _ (recipe-numbered r) e in
+    let five = neither (badSide w) (badSide h) (first-none (badSides w h) 4 _ (both .1) .0) in
+    (is-accepted r (both .0), record { width = good-side w (five .0); height = good-side h (five .1) })
+
+-- lengths that are as stated
+pub same-length-so : (m n : ℕ) → otherPixels m n ≡ false → m ≡ n
+unfolding otherPixels
+same-length-so m n e = eqb-true m n (go (eqb m n) e)
+  where
+    go : (b : Bool) → not b ≡ false → b ≡ true
+    go true p = refl
+    go false p = absurd (true≢false p)
+
+-- a recipe and a picture to which none of 1 to 6 applies
+pub record AcceptedPicture (r : Recipe) (p : Picture) : Type 0 where
+  pub recipe : Accepted r
+  pub sides : Sized (p .width) (p .height)
+  pub size : length (p .pixels) ≡ p .width * p .height
+
+pub is-accepted-picture : (r : Recipe) (p : Picture) → first (pictureChecks r p) ≡ 0 → AcceptedPicture r p
+unfolding pictureChecks
+is-accepted-picture r p e =
+    let both = none-both (sizeChecks r (p .width) (p .height)) _ (size-numbered r (p .width) (p .height)) e in
+    let five = is-sized r (p .width) (p .height) (both .0) in
+    let six = first-none (otherPixels (length (p .pixels)) (p .width * p .height)) 5 _ (both .1) .0 in
+    record { recipe = five .0; sides = five .1; size = same-length-so (length (p .pixels)) (p .width * p .height) six }

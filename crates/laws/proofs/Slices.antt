@@ -2,7 +2,7 @@
 -- one list and the back of another, of the same length.
 -- Assumes nothing.
 use mathlib.Core.Path.{_≡_, refl, sym, ap, ap₂, subst, _∙_}
-use mathlib.Core.List.{List, _∷_, _++_, append-nil}
+use mathlib.Core.List.{List, _∷_, _++_, append-nil, append-assoc}
 use Prim.Native.Nat.{ℕ, suc, _+_, _-_, _≤_, _<_}
 use native.Mathlib.Nat.{le-refl, add-sub-of-le}
 use native.Mathlib.Decide.{decLt}
@@ -97,6 +97,54 @@ module _ {A : Type 0} where
       let h : i < length back = omega (arith, m .inside) in
       let e = set-mixed d i front back (m .size) h l _ (getD back i d) (m .is ∙ mix-next d i front back (m .size) h) in
       record { size = m .size; inside = omega arith; is = e ∙ sym (mix-here d i front back (m .size) h) }
+
+  -- a part more, which was lent from i to e and came back as ys
+  pub mixed-part : (d : A) (i e : ℕ) {front back l : List A} (ys : List A) → Mixed i front back l → e ≡ i + length ys → e ≤ length back
+      → ((k : ℕ) → k < length ys → getD ys k d ≡ getD front (i + k) d)
+      → Mixed e front back (take i l ++ (ys ++ drop (e - i) (drop i l)))
+  unfolding mix
+  mixed-part d i e {front} {back} {l} ys m p h same =
+      let a : length (take i l) ≡ i = length-take-le i l (omega (arith, length-mixed m, m .inside)) in
+      let s : length (take e front) ≡ e = length-take-le e front (omega (arith, m .size)) in
+      record {
+        size = m .size;
+        inside = h;
+        is =
+            sym (append-assoc (take i l) ys (drop (e - i) (drop i l)))
+            ∙ ap₂ _++_
+            (ext-getD d (take i l ++ ys) (take e front) (omega (arith, length-append (take i l) ys))
+            (λ k g.
+            let u : k < e = omega (arith, length-append (take i l) ys) in
+            elim (decLt k i) [
+              | yes v ↦
+                  List·getD-append (take i l) ys d k (omega arith)
+                  ∙ getD-take i l k d v
+                  ∙ mixed-front d m k v
+                  ∙ sym (getD-take e front k d u)
+              | no v ↦
+                  let w : k ≡ length (take i l) + (k - i) = omega arith in
+                  let x : i + (k - i) ≡ k = omega arith in
+                  ap (λ n. getD (take i l ++ ys) n d) w
+                  ∙ getD-append-add (take i l) ys (k - i) d
+                  ∙ same (k - i) (omega arith)
+                  ∙ ap (λ n. getD front n d) x
+                  ∙ sym (getD-take e front k d u)
+            ]))
+            (rest d i e m (omega arith));
+      }
+    where
+      rest : (d : A) (i e : ℕ) {front back l : List A} → Mixed i front back l → i ≤ e → drop (e - i) (drop i l) ≡ drop e back
+      rest d i e {front} {back} {l} m q =
+          let x : i + (e - i) ≡ e = omega arith in
+          ext-getD d (drop (e - i) (drop i l)) (drop e back)
+          (omega (arith, length-drop (e - i) (drop i l), length-drop i l, length-drop e back, length-mixed m))
+          (λ k g.
+          let y : i + ((e - i) + k) ≡ e + k = omega arith in
+          getD-drop (e - i) (drop i l) k d
+          ∙ getD-drop i l ((e - i) + k) d
+          ∙ ap (λ n. getD l n d) y
+          ∙ mixed-back d m (e + k) (omega arith)
+          ∙ sym (getD-drop e back k d))
 
   -- all is written from the left
   pub mixed-all : {i : ℕ} {front back l : List A} → Mixed i front back l → length back ≤ i → l ≡ front

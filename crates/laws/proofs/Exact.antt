@@ -1,0 +1,157 @@
+-- The exact sum of document 01 as a cascade along the rows and then one down the columns, how large it can be, and where it stands in
+-- the list of all grown rows.
+-- Assumes nothing.
+use mathlib.Core.Path.{_≡_, refl, sym, ap, ap₂, _∙_}
+use mathlib.Core.Bool.{Bool, true, false, cond, _&&_}
+use mathlib.Core.List.{List, [], _∷_, _++_, flatten}
+use Prim.Native.Nat.{ℕ, zero, suc, _+_, _-_, _*_, _/_, _%_, _≤_, _<_}
+use native.Mathlib.Nat.{le-refl, le-trans, le-of-eq, add-zero, zero-add, zero-mul, mul-zero, mul-comm, mul-assoc, suc-mul, mul-le-mul, mul-le-mul-left, mul-le-mul-right}
+use native.Mathlib.Decide.{decLe, decLt}
+use native.Mathlib.Omega.{arith}
+use lib.Dec.{leb, ltb}
+use lib.ListN.{length, getD, length-append, List·getD-append}
+use lib.Seq.{getD-append-add}
+use Rattle.spec.specs.Words.{sum, tab, product}
+use Rattle.spec.specs.Recipe.{Recipe, kernel, order, gain}
+use Rattle.spec.specs.Picture.{Picture, pixel, pixelBack, exact, fullWidth, fullHeight, fullRow, full}
+use Rattle.laws.proofs.Sums.{sum-agree, sum-le, sum-scale, sum-swap}
+use Rattle.laws.proofs.Lists.{length-tab, getD-tab, factor-pos}
+use Rattle.laws.proofs.Sequences.{behind, behind-within, behind-before, behind-agree}
+use Rattle.laws.proofs.Convolution.{conv, conv-agree}
+use Rattle.laws.proofs.Kernels.{at, kernel-sum}
+use Rattle.laws.proofs.Cascades.{cascaded, cascaded-agree, cascaded-conv, conv-short, kernel-short, behind-sum, behind-times}
+
+-- row j of a picture as a sequence
+unfoldable pub line : Picture → ℕ → ℕ → ℕ
+line p j i = pixel p i j
+
+module _ (r : Recipe) (p : Picture) where
+  -- row j through the row coefficients, at i
+  unfoldable pub across : ℕ → ℕ → ℕ
+  across i j = sum (suc (order (r .rows))) (λ a. at (kernel (r .rows)) a * behind (line p j) a i)
+
+  -- the pixels a places to the left and b rows up
+  back : (i a j b : ℕ) → pixelBack p i a j b ≡ behind (λ v. behind (line p v) a i) b j
+  unfolding pixelBack behind line
+  back i a j b = go (leb a i) (leb b j)
+    where
+      go : (s t : Bool) → cond (s && t) (pixel p (i - a) (j - b)) 0 ≡ cond t (cond s (pixel p (i - a) (j - b)) 0) 0
+      go true true = refl
+      go true false = refl
+      go false true = refl
+      go false false = refl
+
+  -- the sum over the rows of the window
+  pub exact-down : (i j : ℕ) → exact r p i j ≡ sum (suc (order (r .columns))) (λ b. at (kernel (r .columns)) b * behind (across i) b j)
+  unfolding exact at across
+  exact-down i j =
+      let R = at (kernel (r .rows)) in
+      let C = at (kernel (r .columns)) in
+      let m = suc (order (r .rows)) in
+      let n = suc (order (r .columns)) in
+      sum-swap (λ a b. R a * C b * pixelBack p i a j b) m n
+      ∙ sum-agree (λ b. sum m (λ a. R a * C b * pixelBack p i a j b)) (λ b. C b * behind (across i) b j) n
+      (λ b h.
+      sum-agree (λ a. R a * C b * pixelBack p i a j b) (λ a. C b * behind (λ v. R a * behind (line p v) a i) b j) m
+      (λ a l.
+      ap₂ _*_ (mul-comm (R a) (C b)) (back i a j b)
+      ∙ mul-assoc (C b) (R a) (behind (λ v. behind (line p v) a i) b j)
+      ∙ ap (λ x. C b * x) (sym (behind-times (R a) (λ v. behind (line p v) a i) b j)))
+      ∙ sum-scale (λ a. behind (λ v. R a * behind (line p v) a i) b j) (C b) m
+      ∙ ap (λ x. C b * x) (sym (behind-sum m (λ a v. R a * behind (line p v) a i) b j)))
+
+  -- the two parts of a weight that is not 0
+  pub rows-pos : 0 < gain r → 0 < product (r .rows)
+  unfolding gain
+  rows-pos h = factor-pos (product (r .columns)) (product (r .rows)) (le-trans h (le-of-eq (mul-comm (product (r .rows)) (product (r .columns)))))
+
+  pub columns-pos : 0 < gain r → 0 < product (r .columns)
+  unfolding gain
+  columns-pos h = factor-pos (product (r .rows)) (product (r .columns)) h
+
+  -- a cascade along the rows, then one down the columns
+  pub exact-cascaded : 0 < gain r → (i j : ℕ) → exact r p i j ≡ cascaded 1 (r .columns) (λ v. cascaded 1 (r .rows) (line p v) i) j
+  unfolding across
+  exact-cascaded h i j =
+      exact-down i j
+      ∙ sym (conv-short (at (kernel (r .columns))) (across i) (order (r .columns)) j (kernel-short (r .columns) (columns-pos h)))
+      ∙ conv-agree (at (kernel (r .columns))) (at (kernel (r .columns))) (across i) (λ v. cascaded 1 (r .rows) (line p v) i) j (λ a l. refl)
+      (λ v l.
+      sym (cascaded-conv (r .rows) (line p v) i
+      ∙ conv-short (at (kernel (r .rows))) (line p v) (order (r .rows)) i (kernel-short (r .rows) (rows-pos h))))
+      ∙ sym (cascaded-conv (r .columns) (λ v. cascaded 1 (r .rows) (line p v) i) j)
+
+  -- Pixels are bytes.
+  module _ (small : (k : ℕ) → getD (p .pixels) k 0 ≤ 255) where
+    pub pixel-small : (i j : ℕ) → pixel p i j ≤ 255
+    unfolding pixel
+    pixel-small i j = go (ltb i (p .width) && ltb j (p .height))
+      where
+        go : (b : Bool) → cond b (getD (p .pixels) (j * p .width + i) 0) 0 ≤ 255
+        go true = small (j * p .width + i)
+        go false = omega arith
+
+    behind-small : (f : ℕ → ℕ) (most : ℕ) → ((k : ℕ) → f k ≤ most) → (a k : ℕ) → behind f a k ≤ most
+    behind-small f most h a k =
+        elim (decLe a k) [
+          | yes g ↦ le-trans (le-of-eq (behind-within f a k g)) (h (k - a))
+          | no g ↦ omega (arith, behind-before f a k (omega arith))
+        ]
+
+    -- coefficients times values of at most so much
+    weighed : (ns : List ℕ) (m most : ℕ) (f : ℕ → ℕ) → ((a : ℕ) → f a ≤ most) → sum m (λ a. at (kernel ns) a * f a) ≤ most * product ns
+    weighed ns m most f h =
+        le-trans
+        (sum-le (λ a. at (kernel ns) a * f a) (λ a. most * at (kernel ns) a) m
+        (λ a l. le-trans (mul-le-mul-left (at (kernel ns) a) (h a)) (le-of-eq (mul-comm (at (kernel ns) a) most))))
+        (le-trans (le-of-eq (sum-scale (at (kernel ns)) most m)) (mul-le-mul-left most (kernel-sum ns m)))
+
+    pub across-small : (i j : ℕ) → across i j ≤ 255 * product (r .rows)
+    unfolding across line
+    across-small i j =
+        weighed (r .rows) (suc (order (r .rows))) 255 (λ a. behind (line p j) a i)
+        (λ a. behind-small (line p j) 255 (λ k. pixel-small k j) a i)
+
+    pub exact-small : (i j : ℕ) → exact r p i j ≤ 255 * gain r
+    unfolding gain
+    exact-small i j =
+        le-trans (le-of-eq (exact-down i j))
+        (le-trans
+        (weighed (r .columns) (suc (order (r .columns))) (255 * product (r .rows)) (λ b. behind (across i) b j)
+        (λ b. behind-small (across i) (255 * product (r .rows)) (across-small i) b j))
+        (le-of-eq (mul-assoc 255 (product (r .rows)) (product (r .columns)))))
+
+-- Rows one after the other: f j i at column i of row j, W columns and H rows.
+module _ (W : ℕ) where
+  pub length-rows : (H : ℕ) (f : ℕ → ℕ → ℕ) → length (flatten (tab H (λ j. tab W (f j)))) ≡ H * W
+  unfolding tab flatten
+  length-rows zero f = sym (zero-mul W)
+  length-rows (suc H) f =
+      let rest = flatten (tab H (λ j. tab W (f (suc j)))) in
+      omega (arith, length-append (tab W (f 0)) rest, length-tab W (f 0), length-rows H (λ j. f (suc j)), suc-mul H W)
+
+  pub getD-rows : (H : ℕ) (f : ℕ → ℕ → ℕ) (j i : ℕ) → j < H → i < W → getD (flatten (tab H (λ j. tab W (f j)))) (j * W + i) 0 ≡ f j i
+  unfolding tab flatten
+  getD-rows zero f j i h l = absurd (omega arith)
+  getD-rows (suc H) f zero i h l =
+      let rest = flatten (tab H (λ j. tab W (f (suc j)))) in
+      let e : 0 * W + i ≡ i = omega (arith, zero-mul W) in
+      ap (λ k. getD (tab W (f 0) ++ rest) k 0) e
+      ∙ List·getD-append (tab W (f 0)) rest 0 i (omega (arith, length-tab W (f 0)))
+      ∙ getD-tab W (f 0) i 0 l
+  getD-rows (suc H) f (suc j) i h l =
+      let rest = flatten (tab H (λ j. tab W (f (suc j)))) in
+      let e : suc j * W + i ≡ length (tab W (f 0)) + (j * W + i) = omega (arith, length-tab W (f 0), suc-mul j W) in
+      ap (λ k. getD (tab W (f 0) ++ rest) k 0) e
+      ∙ getD-append-add (tab W (f 0)) rest (j * W + i) 0
+      ∙ getD-rows H (λ j. f (suc j)) j i (omega arith) l
+
+-- all grown rows: their length, and the exact sum at each place
+pub length-full : (r : Recipe) (p : Picture) → length (full r p) ≡ fullHeight r (p .height) * fullWidth r (p .width)
+unfolding full fullRow
+length-full r p = length-rows (fullWidth r (p .width)) (fullHeight r (p .height)) (λ j i. exact r p i j)
+
+pub getD-full : (r : Recipe) (p : Picture) (j i : ℕ) → j < fullHeight r (p .height) → i < fullWidth r (p .width)
+    → getD (full r p) (j * fullWidth r (p .width) + i) 0 ≡ exact r p i j
+unfolding full fullRow
+getD-full r p j i h l = getD-rows (fullWidth r (p .width)) (fullHeight r (p .height)) (λ j i. exact r p i j) j i h l
