@@ -14,6 +14,7 @@ pub use checks::measure;
 pub use coefficients::kernel;
 pub use sizes::Cells;
 pub use sizes::FullSize;
+pub use sizes::box_cells;
 pub use sizes::full_size;
 pub use sizes::stream_cells;
 pub use spec::Cascade;

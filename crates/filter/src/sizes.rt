@@ -59,7 +59,7 @@ pub fn full_size(filter: Filter, width: usize, height: usize) -> FullSize
 }
 
 // The cells of one box.
-fn box_cells(n: u8) -> usize
+pub fn box_cells(n: u8) -> usize
     ensures { λ r. ⌜ (r ≡ boxCells n) × (r ≤ 255) ⌝ }
 {
     if n < 2 {

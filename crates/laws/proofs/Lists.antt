@@ -4,11 +4,11 @@ use mathlib.Core.Path.{_≡_, refl, sym, ap, ap₂, _∙_}
 use mathlib.Core.Bool.{_||_}
 use mathlib.Core.List.{List, [], _∷_, _++_}
 use Prim.Native.Nat.{ℕ, zero, suc, _+_, _*_, _≤_, _<_, suc-le-suc}
-use native.Mathlib.Nat.{zero-add, le-of-suc-le-suc, not-suc-le-zero, zero-lt-suc, mul-zero, mul-one, mul-comm, mul-assoc, le-refl, le-trans, le-of-eq, le-mul-of-pos-right}
+use native.Mathlib.Nat.{zero-add, le-of-suc-le-suc, not-suc-le-zero, zero-lt-suc, mul-zero, mul-one, mul-add, mul-comm, mul-assoc, le-refl, le-trans, le-of-eq, le-mul-of-pos-right}
 use native.Mathlib.Numerals.{add-one}
 use native.Mathlib.Omega.{arith}
 use lib.Dec.{eqb}
-use lib.ListN.{length, getD, take, drop, List·getD-eq-default}
+use lib.ListN.{length, getD, take, drop, replicate, List·getD-eq-default}
 use lib.Seq.{ext-getD, getD-take, length-take-le, take-suc}
 use Rattle.laws.proofs.Numbers.{zero-factor}
 use Rattle.spec.specs.Words.{tab, part, total, product, somewhere}
@@ -41,6 +41,12 @@ module _ {A : Type 0} where
   tab-getD d [] = refl
   tab-getD d (x ∷ xs) = ap (λ l. x ∷ l) (tab-getD d xs)
 
+  -- the same entry everywhere
+  pub tab-replicate : (n : ℕ) (x : A) → tab n (λ k. x) ≡ replicate n x
+  unfolding tab
+  tab-replicate zero x = refl
+  tab-replicate (suc n) x = ap (λ l. x ∷ l) (tab-replicate n x)
+
 -- the first entries of a list
 pub part-take : (n : ℕ) (xs : List ℕ) → n ≤ length xs → part 0 n xs ≡ take n xs
 unfolding part
@@ -65,6 +71,17 @@ module _ (f : ℕ → ℕ) where
   pub total-more : (xs : List ℕ) (i : ℕ) → i < length xs → total f (take (i + 1) xs) ≡ total f (take i xs) + f (getD xs i 0)
   unfolding total
   total-more xs i h = rw (add-one i, take-suc xs i 0 h) (omega (arith, total-append (take i xs) (getD xs i 0 ∷ [])))
+
+pub total-scale : (f : ℕ → ℕ) (c : ℕ) (xs : List ℕ) → total (λ n. c * f n) xs ≡ c * total f xs
+unfolding total
+total-scale f c [] = sym (mul-zero c)
+total-scale f c (x ∷ xs) = ap (λ t. c * f x + t) (total-scale f c xs) ∙ sym (mul-add c (f x) (total f xs))
+
+-- a total of terms that are at most so much
+pub total-most : (f : ℕ → ℕ) (most : ℕ) → ((n : ℕ) → f n ≤ most) → (xs : List ℕ) → total f xs ≤ most * length xs
+unfolding total
+total-most f most h [] = omega arith
+total-most f most h (x ∷ xs) = omega (arith, h x, total-most f most h xs, mul-add most 1 (length xs), mul-one most)
 
 pub product-append : (xs ys : List ℕ) → product (xs ++ ys) ≡ product xs * product ys
 unfolding product

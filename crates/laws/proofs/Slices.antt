@@ -8,7 +8,7 @@ use native.Mathlib.Nat.{le-refl, add-sub-of-le}
 use native.Mathlib.Decide.{decLt}
 use native.Mathlib.Numerals.{add-one}
 use native.Mathlib.Omega.{arith}
-use lib.ListN.{length, getD, take, drop, set, length-append, length-drop, drop-of-length-le, List·getD-append}
+use lib.ListN.{length, getD, take, drop, set, length-append, length-drop, take-append-drop, drop-of-length-le, List·getD-append}
 use Rattle.spec.specs.Words.{tab}
 use Rattle.laws.proofs.Lists.{length-tab, getD-tab}
 use lib.Seq.{length-take-le, take-all, take-suc, drop-cons, append-snoc, set-at, getD-take, getD-drop, getD-append-add, ext-getD}
@@ -62,6 +62,24 @@ module _ {A : Type 0} where
 
   pub mixed-whole : (front back : List A) → length front ≡ length back → Mixed (length back) front back front
   mixed-whole front back e = record { size = e; inside = le-refl (length back); is = sym (mix-whole (length back) front back e (le-refl (length back))) }
+
+  -- nothing needs to be written below i
+  pub mixed-same : (d : A) (i : ℕ) (front back : List A) → length front ≡ length back → i ≤ length back
+      → ((k : ℕ) → k < i → getD front k d ≡ getD back k d) → Mixed i front back back
+  unfolding mix
+  mixed-same d i front back e h same =
+      record {
+        size = e;
+        inside = h;
+        is =
+            sym (take-append-drop i back)
+            ∙ ap (λ l. l ++ drop i back)
+            (ext-getD d (take i back) (take i front)
+            (length-take-le i back h ∙ sym (length-take-le i front (omega arith)))
+            (λ k g.
+            let u : k < i = omega (arith, length-take-le i back h) in
+            getD-take i back k d u ∙ sym (same k u) ∙ sym (getD-take i front k d u)));
+      }
 
   -- what stands before i, and from i on
   module _ (d : A) {i : ℕ} {front back l : List A} (m : Mixed i front back l) where
@@ -150,7 +168,19 @@ module _ {A : Type 0} where
   pub mixed-all : {i : ℕ} {front back l : List A} → Mixed i front back l → length back ≤ i → l ≡ front
   mixed-all {i} {front} {back} m h = m .is ∙ mix-whole i front back (m .size) h
 
-  -- what is left to be written from the right is as it should be
+  -- what is left to be written, from the left and from the right, is as it should be
+  pub mixed-early : (d : A) {i : ℕ} {front back l : List A} → Mixed i front back l
+      → ((k : ℕ) → i ≤ k → k < length back → getD front k d ≡ getD back k d) → l ≡ front
+  mixed-early d {i} {front} {back} {l} m e =
+      ext-getD d l front (length-mixed m ∙ sym (m .size))
+      (λ k h.
+      elim (decLt k i) [
+        | yes g ↦ mixed-front d m k g
+        | no g ↦
+            let u : i ≤ k = omega arith in
+            mixed-back d m k u ∙ sym (e k u (omega (arith, length-mixed m)))
+      ])
+
   pub mixed-rest : (d : A) {i : ℕ} {front back l : List A} → Mixed i front back l
       → ((k : ℕ) → k < i → getD front k d ≡ getD back k d) → l ≡ back
   mixed-rest d {i} {front} {back} {l} m e =
@@ -160,6 +190,58 @@ module _ {A : Type 0} where
         | yes g ↦ mixed-front d m k g ∙ e k g
         | no g ↦ mixed-back d m k (omega arith)
       ])
+
+-- A slice of which a part in the middle, from a on, is rewritten as ys.
+module _ {A : Type 0} (a : ℕ) (ys old : List A) (h : a + length ys ≤ length old) where
+  unfoldable pub patched : List A
+  patched = take a old ++ (ys ++ drop (a + length ys) old)
+
+  front : length (take a old) ≡ a
+  front = length-take-le a old (omega arith)
+
+  pub length-patched : length patched ≡ length old
+  unfolding patched
+  length-patched =
+      omega (
+        arith,
+        front,
+        length-append (take a old) (ys ++ drop (a + length ys) old),
+        length-append ys (drop (a + length ys) old),
+        length-drop (a + length ys) old,
+      )
+
+  module _ (d : A) where
+    -- what stands in the part, before it and after it
+    pub patched-inside : (k : ℕ) → k < length ys → getD patched (a + k) d ≡ getD ys k d
+    unfolding patched
+    patched-inside k l =
+        ap (λ n. getD patched (n + k) d) (sym front)
+        ∙ getD-append-add (take a old) (ys ++ drop (a + length ys) old) k d
+        ∙ List·getD-append ys (drop (a + length ys) old) d k l
+
+    pub patched-before : (k : ℕ) → k < a → getD patched k d ≡ getD old k d
+    unfolding patched
+    patched-before k l =
+        List·getD-append (take a old) (ys ++ drop (a + length ys) old) d k (omega (arith, front)) ∙ getD-take a old k d l
+
+    pub patched-after : (k : ℕ) → a + length ys ≤ k → getD patched k d ≡ getD old k d
+    unfolding patched
+    patched-after k l =
+        let m = k - (a + length ys) in
+        let e : k ≡ length (take a old) + (length ys + m) = omega (arith, front) in
+        let g : a + length ys + m ≡ k = omega arith in
+        ap (λ n. getD patched n d) e
+        ∙ getD-append-add (take a old) (ys ++ drop (a + length ys) old) (length ys + m) d
+        ∙ getD-append-add ys (drop (a + length ys) old) m d
+        ∙ getD-drop (a + length ys) old m d
+        ∙ ap (λ n. getD old n d) g
+
+    -- a loop from the left that has come as far as the part, and one that has come to its end
+    pub patched-none : Mixed a patched old old
+    patched-none = mixed-same d a patched old length-patched (omega arith) patched-before
+
+    pub patched-all : {i : ℕ} {l : List A} → Mixed i patched old l → a + length ys ≤ i → l ≡ patched
+    patched-all m g = mixed-early d m (λ k u v. patched-after k (omega arith))
 
 -- A loop that gives each entry k of a slice the value f k.
 module _ {A : Type 0} (f : ℕ → A) (old : List A) where

@@ -1,0 +1,227 @@
+-- What forming all exact sums answers: the order of its checks, and what is known once none of them holds.
+-- Assumes nothing.
+use mathlib.Core.Path.{_≡_, refl, sym, ap, ap₂, _∙_}
+use mathlib.Core.Bool.{true, false, not, cond, _||_}
+use mathlib.Core.List.{List}
+use Prim.Native.Nat.{ℕ, _+_, _-_, _*_, _^_, _≤_, _<_}
+use native.Mathlib.Nat.{le-trans, le-of-eq, mul-one, mul-comm, mul-le-mul, le-mul-of-pos-right}
+use native.Mathlib.Omega.{arith}
+use lib.Dec.{eqb}
+use lib.ListN.{length}
+use borrow.Author.Tests.{eq-eqb, ne-eqb, le-ltb}
+use Rattle.spec.specs.Words.{product, somewhere, total}
+use Rattle.spec.specs.Recipe.{Recipe, kernel, order, gain}
+use Rattle.spec.specs.Picture.{Picture, fullWidth, fullHeight, full}
+use Rattle.spec.specs.Refusals.{first, check, alone, tooLong, zeroWidth, tooFar, tooHeavy, otherPixels, otherOutput, fullSize, recipeChecks, sizeChecks, pictureChecks, kernelChecks, directChecks}
+use Rattle.laws.proofs.Lists.{product-zero}
+use Rattle.laws.proofs.Kernels.{kernel-sum, length-kernel}
+use Rattle.laws.proofs.Exact.{rows-pos, columns-pos}
+use Rattle.laws.proofs.Refusals.{Accepted, AcceptedPicture, first-front, first-then, first-none, none-both, neither, recipe-numbered, size-numbered, picture-numbered, is-accepted-picture, same-length-so, lent-refused, lent-accepted}
+use Rattle.filter.specs.Filled.{Filled}
+use Rattle.direct.specs.Formed.{checks, Formed}
+use Rattle.direct.specs.Windows.{windows, weight, Ready}
+use Rattle.direct.proofs.Weighing.{windows-full}
+
+-- lengths that are as stated, and that are not
+as-stated : (m n : ℕ) → m ≡ n → otherOutput m n ≡ false
+unfolding otherOutput
+as-stated m n e = ap not (eq-eqb m n e)
+
+not-stated : (m n : ℕ) → (m ≡ n → ⊥) → otherOutput m n ≡ true
+unfolding otherOutput
+not-stated m n h = ap not (ne-eqb m n h)
+
+module _ (r : Recipe) (p : Picture) (rows columns out : ℕ) where
+  abbrev number : ℕ
+  number = first (directChecks r p rows columns out)
+
+  -- 1 to 5
+  pub by-size : (n : ℕ) → first (sizeChecks r (p .width) (p .height)) ≡ n → (n ≡ 0 → ⊥) → number ≡ n
+  unfolding directChecks pictureChecks
+  by-size n e h = first-front (pictureChecks r p) _ n (first-front (sizeChecks r (p .width) (p .height)) _ n e h) h
+
+  module _ (none : first (sizeChecks r (p .width) (p .height)) ≡ 0) where
+    six : first (pictureChecks r p) ≡ cond (otherPixels (length (p .pixels)) (p .width * p .height)) 6 0
+    unfolding pictureChecks
+    six = first-then (sizeChecks r (p .width) (p .height)) _ 6 (size-numbered r (p .width) (p .height)) none
+
+    pub by-pixels : (length (p .pixels) ≡ p .width * p .height → ⊥) → number ≡ 6
+    unfolding directChecks otherPixels
+    by-pixels h =
+        first-front (pictureChecks r p) _ 6 (six ∙ ap (λ b. cond (not b) 6 0) (ne-eqb (length (p .pixels)) (p .width * p .height) h))
+        (λ e. omega arith)
+
+    -- 7, for the slices in their order
+    module _ (size : length (p .pixels) ≡ p .width * p .height) where
+      seven : number ≡ cond (otherOutput rows (order (r .rows) + 1) || otherOutput columns (order (r .columns) + 1) || otherOutput out (fullSize r p)) 7 0
+      unfolding directChecks otherPixels
+      seven =
+          first-then (pictureChecks r p) _ 7 (picture-numbered r p)
+          (six ∙ ap (λ b. cond (not b) 6 0) (eq-eqb (length (p .pixels)) (p .width * p .height) size))
+
+      pub by-rows : (rows ≡ order (r .rows) + 1 → ⊥) → number ≡ 7
+      by-rows h =
+          seven
+          ∙ ap (λ b. cond (b || otherOutput columns (order (r .columns) + 1) || otherOutput out (fullSize r p)) 7 0)
+          (not-stated rows (order (r .rows) + 1) h)
+
+      module _ (one : rows ≡ order (r .rows) + 1) where
+        pub by-columns : (columns ≡ order (r .columns) + 1 → ⊥) → number ≡ 7
+        by-columns h =
+            seven
+            ∙ ap₂ (λ a b. cond (a || b || otherOutput out (fullSize r p)) 7 0)
+            (as-stated rows (order (r .rows) + 1) one) (not-stated columns (order (r .columns) + 1) h)
+
+        module _ (two : columns ≡ order (r .columns) + 1) where
+          last : number ≡ cond (otherOutput out (fullSize r p)) 7 0
+          last =
+              seven
+              ∙ ap₂ (λ a b. cond (a || b || otherOutput out (fullSize r p)) 7 0)
+              (as-stated rows (order (r .rows) + 1) one) (as-stated columns (order (r .columns) + 1) two)
+
+          pub by-out : (out ≡ fullSize r p → ⊥) → number ≡ 7
+          by-out h = last ∙ ap (λ b. cond b 7 0) (not-stated out (fullSize r p) h)
+
+          pub by-none : out ≡ fullSize r p → number ≡ 0
+          by-none e = last ∙ ap (λ b. cond b 7 0) (as-stated out (fullSize r p) e)
+
+-- what is known of a call to which none of 1 to 7 applies
+pub record Called (r : Recipe) (p : Picture) (rows columns out : ℕ) : Type 0 where
+  pub picture : AcceptedPicture r p
+  pub rowSize : rows ≡ order (r .rows) + 1
+  pub columnSize : columns ≡ order (r .columns) + 1
+  pub outSize : out ≡ fullSize r p
+
+pub is-called : (r : Recipe) (p : Picture) (rows columns out : ℕ) → first (directChecks r p rows columns out) ≡ 0 → Called r p rows columns out
+unfolding directChecks otherPixels otherOutput
+is-called r p rows columns out e =
+    let both = none-both (pictureChecks r p) _ (picture-numbered r p) e in
+    let seven = first-none _ 6 _ (both .1) .0 in
+    let a = otherOutput rows (order (r .rows) + 1) in
+    let b = otherOutput columns (order (r .columns) + 1) in
+    let c = otherOutput out (fullSize r p) in
+    let last = neither (a || b) c seven in
+    let both-lists = neither a b (last .0) in
+    record {
+      picture = is-accepted-picture r p (both .0);
+      rowSize = same-length-so rows (order (r .rows) + 1) (both-lists .0);
+      columnSize = same-length-so columns (order (r .columns) + 1) (both-lists .1);
+      outSize = same-length-so out (fullSize r p) (last .1);
+    }
+
+-- a list that is accepted as a recipe of its own
+pub record Light (ns : List ℕ) : Type 0 where
+  pub short : length ns ≤ 48
+  pub notZero : 0 < product ns
+  pub reach : order ns ≤ 255
+  pub weight : product ns ≤ 2 ^ 44
+
+light-alone : (ns : List ℕ) → Light ns → first (recipeChecks (alone ns)) ≡ 0
+unfolding first recipeChecks check alone tooLong zeroWidth tooFar tooHeavy gain product somewhere order total
+light-alone ns l =
+    let zeros : somewhere (λ n. eqb n 0) ns ≡ false = product-zero ns ∙ ne-eqb (product ns) 0 (λ e. omega (arith, l .notZero)) in
+    rw (
+      le-ltb 48 (length ns) (l .short),
+      zeros,
+      le-ltb 255 (order ns) (l .reach),
+      le-ltb (2 ^ 44) (product ns * 1) (omega (arith, l .weight, mul-one (product ns))),
+    ) refl
+
+-- the coefficients of such a list are filled in
+pub filled-whole : (ns old new : List ℕ) (number : ℕ) → Light ns → length old ≡ order ns + 1 → Filled ns old number new → new ≡ kernel ns
+unfolding kernelChecks
+filled-whole ns old new number l s f =
+    let none = first-then (recipeChecks (alone ns)) _ 7 (recipe-numbered (alone ns)) (light-alone ns l) in
+    f .slice ∙ lent-accepted _ (kernel ns) old (none ∙ ap (λ b. cond b 7 0) (as-stated (length old) (order ns + 1) s))
+
+-- both lists of an accepted recipe are
+module _ (r : Recipe) (p : Picture) (k : Accepted r) where
+  across-pos : 0 < product (r .rows)
+  across-pos = rows-pos r p (k .notZero)
+
+  down-pos : 0 < product (r .columns)
+  down-pos = columns-pos r p (k .notZero)
+
+  pub rows-light : Light (r .rows)
+  unfolding gain
+  rows-light =
+      record {
+        short = k .rowsShort;
+        notZero = across-pos;
+        reach = k .rowReach;
+        weight = le-trans (le-mul-of-pos-right (product (r .rows)) down-pos) (k .light);
+      }
+
+  pub columns-light : Light (r .columns)
+  unfolding gain
+  columns-light =
+      record {
+        short = k .columnsShort;
+        notZero = down-pos;
+        reach = k .columnReach;
+        weight =
+            le-trans (le-mul-of-pos-right (product (r .columns)) across-pos)
+            (le-trans (le-of-eq (mul-comm (product (r .columns)) (product (r .rows)))) (k .light));
+      }
+
+-- Slices that hold R and C, and what is formed from them.
+module _ (r : Recipe) (p : Picture) (rows columns out : ℕ) (k : Called r p rows columns out) (rs cs : List ℕ) (a : rs ≡ kernel (r .rows)) (b : cs ≡ kernel (r .columns)) where
+  row-length : length rs ≡ order (r .rows) + 1
+  row-length = ap length a ∙ length-kernel (r .rows) (across-pos r p (k .picture .recipe))
+
+  column-length : length cs ≡ order (r .columns) + 1
+  column-length = ap length b ∙ length-kernel (r .columns) (down-pos r p (k .picture .recipe))
+
+  row-weight : weight rs ≤ product (r .rows)
+  unfolding weight
+  row-weight = rw a (kernel-sum (r .rows) (length (kernel (r .rows))))
+
+  column-weight : weight cs ≤ product (r .columns)
+  unfolding weight
+  column-weight = rw b (kernel-sum (r .columns) (length (kernel (r .columns))))
+
+  pub called-ready : Ready rs cs p
+  unfolding gain
+  called-ready =
+      let q = k .picture in
+      record {
+        size = q .size;
+        wide = q .sides .width;
+        high = q .sides .height;
+        rows = (omega (arith, row-length), omega (arith, row-length, q .recipe .rowReach));
+        columns = (omega (arith, column-length), omega (arith, column-length, q .recipe .columnReach));
+        rowWeight = le-trans row-weight (rows-light r p (q .recipe) .weight);
+        light = le-trans (mul-le-mul row-weight column-weight) (q .recipe .light);
+      }
+
+  pub called-size : out ≡ (p .height + length cs - 1) * (p .width + length rs - 1)
+  unfolding fullSize fullWidth fullHeight
+  called-size =
+      let w : p .width + length rs - 1 ≡ p .width + order (r .rows) = omega (arith, row-length) in
+      let h : p .height + length cs - 1 ≡ p .height + order (r .columns) = omega (arith, column-length) in
+      k .outSize ∙ mul-comm (p .width + order (r .rows)) (p .height + order (r .columns)) ∙ sym (ap₂ _*_ h w)
+
+  pub called-full : (sums : List ℕ) → sums ≡ windows rs cs p → sums ≡ full r p
+  called-full sums e = e ∙ ap₂ (λ x y. windows x y p) a b ∙ windows-full r p (k .picture .recipe .notZero)
+
+-- on a refusal nothing is written; otherwise all is
+module _ (r : Recipe) (p : Picture) (rows columns out : List ℕ) where
+  pub formed-refused : (n : ℕ) → n ≡ first (checks r p rows columns out) → (n ≡ 0 → ⊥)
+      → Formed r p rows columns out n rows columns out
+  formed-refused n e h =
+      record {
+        answer = e;
+        rowSlice = sym (lent-refused _ _ rows n (sym e) h);
+        columnSlice = sym (lent-refused _ _ columns n (sym e) h);
+        outSlice = sym (lent-refused _ _ out n (sym e) h);
+      }
+
+  pub formed-all : (rs cs sums : List ℕ) → first (checks r p rows columns out) ≡ 0
+      → rs ≡ kernel (r .rows) → cs ≡ kernel (r .columns) → sums ≡ full r p → Formed r p rows columns out 0 rs cs sums
+  formed-all rs cs sums e a b s =
+      record {
+        answer = sym e;
+        rowSlice = a ∙ sym (lent-accepted _ _ rows e);
+        columnSlice = b ∙ sym (lent-accepted _ _ columns e);
+        outSlice = s ∙ sym (lent-accepted _ _ out e);
+      }

@@ -1,0 +1,79 @@
+// Document 01's third method, direct: the coefficients of both lists are filled in, then every exact
+// sum is formed as it is defined.
+mod sums;
+
+ghost use mathlib.Core.Path.{_≡_};
+ghost use Rattle.spec.specs.Recipe.{recipe};
+ghost use Rattle.spec.specs.Cases.{picture};
+ghost use Rattle.spec.specs.Refusals.{first, directChecks};
+ghost use Rattle.direct.specs.Formed.{Formed};
+use crate::sums::form;
+use filter::FullSize;
+use spec::Filter;
+
+// The number of the first of 1 to 7 that applies, 0 where none does.
+fn refusal(
+    filter: Filter,
+    width: usize,
+    height: usize,
+    pixels: &[u8],
+    rows: usize,
+    columns: usize,
+    out: usize,
+) -> u8
+    ensures { λ r. ⌜ r ≡ first (directChecks (recipe filter) (picture width height (now (pixels .entry))) rows columns out) ⌝ }
+{
+    let answer = filter::full_size(filter, width, height);
+    match answer {
+        FullSize::Refused(number) => number,
+        FullSize::Sides {
+            width: grown_width,
+            height: grown_height,
+        } => {
+            if pixels.len() != width * height {
+                6
+            } else if rows != grown_width - width + 1 {
+                7
+            } else if columns != grown_height - height + 1 {
+                7
+            } else if out != grown_width * grown_height {
+                7
+            } else {
+                0
+            }
+        }
+    }
+}
+
+// All exact sums of a picture, row by row, with the coefficients of the row list and of the column list
+// filled in: refused by 1 to 7.
+pub fn direct(
+    filter: Filter,
+    width: usize,
+    height: usize,
+    pixels: &[u8],
+    rows: &mut [u64],
+    columns: &mut [u64],
+    out: &mut [u64],
+) -> u8
+    ensures { λ r. let p = picture width height (now (pixels .entry)) in
+        ⌜ Formed (recipe filter) p (now (rows .entry)) (now (columns .entry)) (now (out .entry))
+        r (now (rows .exit)) (now (columns .exit)) (now (out .exit)) ⌝ }
+{
+    let number = refusal(
+        filter,
+        width,
+        height,
+        pixels,
+        rows.len(),
+        columns.len(),
+        out.len(),
+    );
+    if number != 0 {
+        return number;
+    }
+    filter::kernel(filter.rows, rows);
+    filter::kernel(filter.columns, columns);
+    form(pixels, width, height, rows, columns, out);
+    0
+}

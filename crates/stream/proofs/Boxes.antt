@@ -1,0 +1,175 @@
+-- The stages of specs/Stages.antt as box filters on sequences.
+-- Assumes nothing.
+use mathlib.Core.Path.{_≡_, refl, sym, ap, ap₂, _∙_}
+use mathlib.Core.Bool.{cond}
+use mathlib.Core.List.{List, [], _∷_}
+use Prim.Native.Nat.{ℕ, suc, _+_, _-_, _*_, _%_, _^_, _≤_, _<_}
+use native.Mathlib.Nat.{le-refl}
+use native.Mathlib.Decide.{decLe, decLt}
+use native.Mathlib.Omega.{arith}
+use lib.Dec.{ltb}
+use lib.ListN.{length, getD, set, replicate}
+use borrow.Author.Tests.{lt-ltb, le-ltb, ne-eqb}
+use Rattle.spec.specs.Words.{sum, tab}
+use Rattle.laws.proofs.Sums.{sum-agree, sum-split}
+use Rattle.laws.proofs.Lists.{length-tab, getD-tab, tab-agree, tab-replicate}
+use Rattle.laws.proofs.Sequences.{behind, boxed, running, behind-zero, behind-within, behind-before, boxed-running}
+use Rattle.laws.proofs.Kernels.{at}
+use Rattle.spec.specs.Stream.{boxCells, boxCost}
+use Rattle.stream.specs.Stages.{minus, covered, rowBoxed, rowKept, rowStage, slotBefore, columnPair, columnSlot, columnStage}
+use Rattle.stream.proofs.Wrapping.{minus-exact}
+use Rattle.stream.proofs.Rings.{covered-none, covered-whole, lap-early, lap-late}
+
+-- a stage along the row is the box filter modulo 2^64
+pub row-boxed : (n : ℕ) (row : List ℕ) → rowBoxed n row ≡ tab (length row) (λ k. boxed n (at row) k % 2 ^ 64)
+unfolding rowBoxed boxed behind at
+row-boxed n row = refl
+
+-- a box of width 2
+pub boxed-two : (f : ℕ → ℕ) (k : ℕ) → boxed 2 f k ≡ f k + behind f 1 k
+unfolding boxed sum
+boxed-two f k = omega (arith, behind-zero f k)
+
+-- the only cell
+pub set-only : (xs : List ℕ) (v : ℕ) → length xs ≡ 1 → set xs 0 v ≡ v ∷ []
+set-only [] v e = absurd (omega arith)
+set-only (x ∷ []) v e = refl
+set-only (x ∷ (y ∷ zs)) v e = absurd (omega arith)
+
+-- the sum of n values as the difference of two running totals
+pub boxed-total : (n : ℕ) (f : ℕ → ℕ) (k : ℕ) → 0 < n → boxed n f k + sum (suc k - n) f ≡ sum (suc k) f
+unfolding running sum
+boxed-total n f k pos =
+    elim (decLe n k) [
+      | yes h ↦
+          let e : suc (k - n) ≡ suc k - n = omega arith in
+          omega (arith, boxed-running f n k, behind-within (running f) n k h, ap (λ m. sum m f) e)
+      | no h ↦
+          let e : suc k - n ≡ 0 = omega arith in
+          omega (arith, boxed-running f n k, behind-before (running f) n k (omega arith), ap (λ m. sum m f) e, nothing)
+    ]
+  where
+    nothing : sum 0 f ≡ 0
+    nothing = refl
+
+-- the ring of a stage along the row, after k values of v
+unfoldable pub ring : ℕ → (ℕ → ℕ) → ℕ → List ℕ
+ring n v k = tab n (λ p. sum (covered n k p) v % 2 ^ 64)
+
+pub ring-none : (n : ℕ) (v : ℕ → ℕ) → 0 < n → replicate n 0 ≡ ring n v 0
+unfolding ring sum
+ring-none n v pos =
+    sym (tab-replicate n 0) ∙ tab-agree n (λ p. 0) (λ p. sum (covered n 0 p) v % 2 ^ 64) (λ p h. sym (ap (λ m. sum m v % 2 ^ 64) (covered-none n pos p h)))
+
+-- A lap of m values from k on, a whole number of rounds: xs are the values, own the ring and total the total before it.
+module _ (n : ℕ) (pos : 0 < n) (v : ℕ → ℕ) (k m : ℕ) (whole : k % n ≡ 0) (short : m ≤ n) (xs own : List ℕ) (total : ℕ)
+    (values : (p : ℕ) → p < m → at xs p ≡ v (k + p)) (was : own ≡ ring n v k) (so : total ≡ sum k v % 2 ^ 64) where
+  -- the total with j values of the lap
+  lap-total : (j : ℕ) → j ≤ m → (total + sum j (at xs)) % 2 ^ 64 ≡ sum (k + j) v % 2 ^ 64
+  lap-total j h =
+      let e : sum j (at xs) ≡ sum j (λ p. v (k + p)) = sum-agree (at xs) (λ p. v (k + p)) j (λ p l. values p (omega arith)) in
+      omega (arith, e, so, sum-split v k j)
+
+  pub lap-sum : (total + sum m (at xs)) % 2 ^ 64 ≡ sum (k + m) v % 2 ^ 64
+  lap-sum = lap-total m (le-refl m)
+
+  held : (p : ℕ) → p < n → at own p ≡ sum (k + suc p - n) v % 2 ^ 64
+  unfolding at ring
+  held p h =
+      ap (λ l. getD l p 0) was
+      ∙ getD-tab n (λ p. sum (covered n k p) v % 2 ^ 64) p 0 h
+      ∙ ap (λ c. sum c v % 2 ^ 64) (covered-whole n pos k whole p h)
+
+  -- the row: the box filter
+  pub lap-made : (p : ℕ) → p < m → minus ((total + sum (suc p) (at xs)) % 2 ^ 64) (at own p) ≡ boxed n v (k + p) % 2 ^ 64
+  lap-made p h =
+      let e : k + suc p ≡ suc (k + p) = omega arith in
+      ap₂ minus (lap-total (suc p) h ∙ ap (λ j. sum j v % 2 ^ 64) e) (held p (omega arith) ∙ ap (λ j. sum (j - n) v % 2 ^ 64) e)
+      ∙ minus-exact (sum (suc (k + p)) v) (sum (suc (k + p) - n) v) (boxed n v (k + p)) (boxed-total n v (k + p) pos)
+
+  -- the ring
+  pub lap-kept : length xs ≡ m → tab (length own) (λ p. cond (ltb p (length xs)) ((total + sum (suc p) (at xs)) % 2 ^ 64) (at own p)) ≡ ring n v (k + m)
+  unfolding ring
+  lap-kept e =
+      let size : length own ≡ n = ap length was ∙ length-tab n (λ p. sum (covered n k p) v % 2 ^ 64) in
+      let new : ℕ → ℕ = λ p. cond (ltb p (length xs)) ((total + sum (suc p) (at xs)) % 2 ^ 64) (at own p) in
+      ap (λ j. tab j new) size
+      ∙ tab-agree n new (λ p. sum (covered n (k + m) p) v % 2 ^ 64)
+      (λ p h.
+      elim (decLt p m) [
+        | yes g ↦
+            ap (λ b. cond b ((total + sum (suc p) (at xs)) % 2 ^ 64) (at own p)) (lt-ltb p (length xs) (omega arith))
+            ∙ lap-total (suc p) g
+            ∙ ap (λ c. sum c v % 2 ^ 64) (sym (lap-early n pos k whole m p short g))
+        | no g ↦
+            ap (λ b. cond b ((total + sum (suc p) (at xs)) % 2 ^ 64) (at own p)) (le-ltb p (length xs) (omega arith))
+            ∙ held p h
+            ∙ ap (λ c. sum c v % 2 ^ 64) (sym (lap-late n pos k whole m p short (omega arith) h))
+      ])
+
+-- how many cells a box has, what it costs, and what its stage makes, by its width
+module _ (n : ℕ) where
+  pub cells-two : n ≡ 2 → boxCells n ≡ 1
+  unfolding boxCells
+  cells-two e = rw e refl
+
+  pub cells-wide : 2 < n → boxCells n ≡ n
+  unfolding boxCells
+  cells-wide h = rw (le-ltb n 2 (omega arith), ne-eqb n 2 (λ e. omega arith)) refl
+
+  pub cost-one : n < 2 → boxCost n ≡ 0
+  unfolding boxCost
+  cost-one h = rw (lt-ltb n 2 h) refl
+
+  pub cost-two : n ≡ 2 → boxCost n ≡ 1
+  unfolding boxCost
+  cost-two e = rw e refl
+
+  pub cost-wide : 2 < n → boxCost n ≡ 2
+  unfolding boxCost
+  cost-wide h = rw (le-ltb n 2 (omega arith), ne-eqb n 2 (λ e. omega arith)) refl
+
+  module _ (row own : List ℕ) where
+    pub row-one : n < 2 → rowStage n row own ≡ record { row = row; cells = own }
+    unfolding rowStage
+    row-one h = rw (lt-ltb n 2 h) refl
+
+    pub row-two : n ≡ 2 → rowStage n row own ≡ record { row = rowBoxed 2 row; cells = getD row (length row - 1) 0 ∷ [] }
+    unfolding rowStage rowKept
+    row-two e = rw e refl
+
+    pub row-wide : 2 < n → rowStage n row own ≡ record { row = rowBoxed n row; cells = ring n (at row) (length row) }
+    unfolding rowStage rowKept ring at
+    row-wide h = rw (le-ltb n 2 (omega arith), ne-eqb n 2 (λ e. omega arith)) refl
+
+    module _ (e : ℕ) where
+      pub column-one : n < 2 → columnStage e n row own ≡ record { row = row; cells = own }
+      unfolding columnStage
+      column-one h = rw (lt-ltb n 2 h) refl
+
+      pub column-two : n ≡ 2 → columnStage e n row own ≡ columnPair row own
+      unfolding columnStage
+      column-two d = rw d refl
+
+      pub column-wide : 2 < n → columnStage e n row own ≡ columnSlot (slotBefore n e * length row) (e % n * length row) row own
+      unfolding columnStage
+      column-wide h = rw (le-ltb n 2 (omega arith), ne-eqb n 2 (λ d. omega arith)) refl
+
+-- a width that is neither below 2 nor 2
+pub two-less : (n : ℕ) → 2 ≤ n → (n ≡ 2 → ⊥) → 2 < n
+two-less n h d =
+    elim (decLt 2 n) [
+      | yes g ↦ g
+      | no g ↦ let e : n ≡ 2 = omega arith in absurd (d e)
+    ]
+
+pub cost-most : (n : ℕ) → boxCost n ≤ 2
+cost-most n =
+    elim (decLt n 2) [
+      | yes h ↦ omega (arith, cost-one n h)
+      | no h ↦
+          elim (decLt 2 n) [
+            | yes g ↦ omega (arith, cost-wide n g)
+            | no g ↦ let e : n ≡ 2 = omega arith in omega (arith, cost-two n e)
+          ]
+    ]

@@ -1,0 +1,6 @@
+pub mod Wrapping
+pub mod Rings
+pub mod Boxes
+pub mod Left
+pub mod States
+pub mod Loading

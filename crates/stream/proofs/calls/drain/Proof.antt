@@ -1,0 +1,77 @@
+-- `stream::calls::drain` meets its contract: the checks, a black row, the stages.
+-- Assumes nothing.
+use Rattle.laws.proofs.Refusals.{lent-refused, lent-accepted}
+use Rattle.stream.specs.Sizes.{Ready}
+use Rattle.stream.specs.Stages.{entering}
+use Rattle.stream.specs.Calls.{stateOf, start, called, steps, answers, drain}
+use Rattle.stream.proofs.States.{drain-ready}
+use Rattle.stream.proofs.Loading.{cleared, black}
+use mathlib.Core.Path.{sym, ap, subst, _∙_}
+use Rattle.spec.specs.Words.{tab}
+use mathlib.Core.List.{[]}
+use Prim.Native.Nat.{ℕ}
+use borrow.Author.Needs.{needs}
+use lib.ListN.{length, getD}
+use Rattle.stream.proofs.calls.drain.Statement.{statement}
+use Rattle.stream.proofs.calls.drain.Tie as tie
+
+drain-refusal-requires : tie.Need-drain-refusal-requires
+drain-refusal-requires c κs = search needs
+
+no-step-requires : tie.Need-no-step-requires
+no-step-requires c κs = search needs
+
+returns : tie.Need-returns
+unfolding drain answers called
+returns c =
+    let start = c .before .before .before .before .before in
+    let a = start .args in
+    let none = c .no-step .ensures in
+    let e = sym (c .before .before .drain-refusal .ensures) in
+    (λ i. record { number = (none .0 ∙ sym e) i; state = none .1 i; count = none .2 i; out = a .out .now; cells = a .cells .now })
+    ∙ sym (lent-refused _ _ _ _ e (c .before .if1 .taken))
+
+clear-requires : tie.Need-clear-requires
+clear-requires c κs = search needs
+
+-- what is known of an accepted call
+accepted : (c : tie.Else1) → let a = c .before .before .before .before .args in
+    Ready (stateOf (a .state)) (length (a .out .now)) (length (a .cells .now))
+accepted c =
+    let a = c .before .before .before .before .args in
+    drain-ready (stateOf (a .state)) _ _ (sym (c .before .drain-refusal .ensures) ∙ c .if1 .left) .0
+
+step-requires : tie.Need-step-requires
+step-requires c κs =
+    let e = c .before .before .before .before .before .before in
+    let a = e .before .before .before .before .args in
+    subst (λ n. Ready (stateOf (a .state)) n (length (a .cells .now))) (sym (c .before .before .before .before .clear .kept .0)) (accepted e)
+
+same-length : tie.Need-same-length
+same-length c = search needs
+
+same-length-2 : tie.Need-same-length-2
+same-length-2 c = search needs
+
+returns-2 : tie.Need-returns-2
+unfolding drain answers entering stateOf
+returns-2 c =
+    let e = c .before .before .before .before .before .before .before .before .before .before .before in
+    let a = e .before .before .before .before .args in
+    let cleared = c .before .before .before .before .before .before .before .before .before .clear .ensures in
+    c .before .before .before .before .step .ensures
+    ∙ ap (λ v. steps (a .state) v (a .cells .now)) (cleared ∙ black (length (a .out .now)) ∙ ap (λ n. tab n (λ k. getD {A = ℕ} [] k 0)) (accepted e .output))
+    ∙ sym (lent-accepted _ _ _ (sym (e .before .drain-refusal .ensures) ∙ e .if1 .left))
+
+pub drain-spec : {M : Type 1} → statement M
+drain-spec =
+    tie.close
+    (tie.spec
+    drain-refusal-requires
+    no-step-requires
+    returns
+    clear-requires
+    step-requires
+    same-length
+    same-length-2
+    returns-2)

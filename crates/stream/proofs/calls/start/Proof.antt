@@ -1,0 +1,100 @@
+-- `stream::calls::start` meets its contract: 1 to 5, then 8, then the needed cells cleared.
+-- Assumes nothing.
+use Rattle.spec.specs.Recipe.{recipe}
+use Rattle.spec.specs.Refusals.{first, startChecks, tooFewCells}
+use Rattle.laws.proofs.Refusals.{lent-refused, lent-accepted, first-front, first-then, size-numbered}
+use Rattle.stream.specs.Calls.{began, started, start}
+use Rattle.stream.proofs.Loading.{cleared}
+use mathlib.Core.Path.{_≡_, sym, ap, _∙_}
+use mathlib.Core.List.{_++_}
+use native.Mathlib.Omega.{arith}
+use mathlib.Core.Bool.{cond}
+use lib.Dec.{ltb}
+use borrow.Author.Tests.{lt-ltb, le-ltb}
+use lib.ListN.{replicate, length, drop}
+use borrow.Author.Needs.{needs}
+use Rattle.stream.proofs.calls.start.Statement.{statement}
+use Rattle.stream.proofs.calls.start.Tie as tie
+
+measure-requires : tie.Need-measure-requires
+measure-requires c κs = search needs
+
+no-start-requires : tie.Need-no-start-requires
+no-start-requires c κs = search needs
+
+returns : tie.Need-returns
+unfolding start startChecks began
+returns c =
+    let m = c .before .before .measure .ensures in
+    let cells = c .before .before .before .before .args .cells .now in
+    let none = c .no-start .ensures in
+    let e = first-front _ _ _ (sym (m .number)) (c .before .if1 .taken) in
+    (λ i. record { number = (none .0 ∙ sym e) i; state = none .1 i; cells = cells }) ∙ sym (lent-refused _ _ _ _ e (c .before .if1 .taken))
+
+no-start-requires-2 : tie.Need-no-start-requires-2
+no-start-requires-2 c κs = search needs
+
+-- 8 goes by the length of the cells
+eight : (c : tie.Else1) → let a = c .before .before .before .args in
+    first (startChecks (recipe (a .filter)) (a .width) (a .height) (length (a .cells .now))) ≡ cond (ltb (length (a .cells .now)) (c .before .measure .result .cells)) 8 0
+unfolding startChecks tooFewCells
+eight c =
+    let a = c .before .before .before .args in
+    let m = c .before .measure .ensures in
+    first-then _ _ 8 (size-numbered (recipe (a .filter)) (a .width) (a .height)) (sym (m .number) ∙ c .if1 .left)
+    ∙ ap (λ n. cond (ltb (length (a .cells .now)) n) 8 0) (sym (m .told (c .if1 .left) .cells))
+
+returns-2 : tie.Need-returns-2
+unfolding start began
+returns-2 c =
+    let e = c .before .before in
+    let cells = e .before .before .before .args .cells .now in
+    let none = c .no-start2 .ensures in
+    let is = eight e ∙ ap (λ b. cond b 8 0) (lt-ltb _ _ (c .before .if2 .taken)) in
+    (λ i. record { number = (none .0 ∙ sym is) i; state = none .1 i; cells = cells }) ∙ sym (lent-refused _ _ _ 8 is (λ z. omega arith))
+
+mul-clear : tie.Need-mul-clear
+mul-clear c = search needs
+
+sub-clear : tie.Need-sub-clear
+sub-clear c = search needs
+
+part-clear-start : tie.Need-part-clear-start
+part-clear-start c = search needs
+
+part-clear-end : tie.Need-part-clear-end
+part-clear-end c = search needs
+
+clear-requires : tie.Need-clear-requires
+clear-requires c κs = search needs
+
+same-length : tie.Need-same-length
+same-length c = search needs
+
+returns-3 : tie.Need-returns-3
+unfolding start began started
+returns-3 c =
+    let two = c .before .before .before .before in
+    let e = two .before in
+    let a = e .before .before .before .args in
+    let needed = e .before .measure .ensures .told (e .if1 .left) .cells in
+    let is = eight e ∙ ap (λ b. cond b 8 0) (le-ltb _ _ (two .if2 .left)) in
+    let now = cleared (e .before .measure .result .cells) (a .cells .now) _ (two .if2 .left) (c .before .before .clear .ensures) ∙ ap (λ n. replicate n 0 ++ drop n (a .cells .now)) needed in
+    (λ i. record { number = 0; state = record { filter = a .filter; width = a .width; height = a .height; emitted = 0 }; cells = now i }) ∙ sym (lent-accepted _ _ _ is)
+
+pub start-spec : {M : Type 1} → statement M
+start-spec =
+    tie.close
+    (tie.spec
+    measure-requires
+    no-start-requires
+    returns
+    no-start-requires-2
+    returns-2
+    mul-clear
+    sub-clear
+    part-clear-start
+    part-clear-end
+    clear-requires
+    same-length
+    returns-3)

@@ -1,0 +1,50 @@
+-- A list of row calls and drains, each with what its slices hold, and its accepted calls. The first gets the state and the cells of the
+-- start, each later one what the one before left.
+use mathlib.Core.List.{List, [], _∷_, _++_}
+use Prim.Native.Nat.{ℕ, _*_}
+use Rattle.spec.specs.Words.{part}
+use Rattle.spec.specs.Picture.{Picture}
+use Rattle.spec.specs.Refusals.{either}
+use Rattle.stream.specs.declared.calls.State.{State}
+use Rattle.stream.specs.Calls.{Called, push, drain}
+
+-- a row call with its pixels and what its output held, or a drain with what its output held
+pub data Call : Type 0 where
+  aRow : (pixels out : List ℕ) → Call
+  aDrain : (out : List ℕ) → Call
+
+-- the call's answer, as its contract has it
+unfoldable pub answer : Call → State → List ℕ → Called
+answer (aRow pixels out) s cells = push s pixels out cells
+answer (aDrain out) s cells = drain s out cells
+
+-- an accepted call, and its output as it stands on return
+pub record Yielded : Type 0 where
+  pub call : Call
+  pub out : List ℕ
+
+-- the accepted calls of a list, in order, refused ones passed over
+unfoldable pub run : List Call → State → List ℕ → List Yielded
+run [] s cells = []
+run (c ∷ cs) s cells =
+    let a = answer c s cells in
+    let rest = run cs (a .state) (a .cells) in
+    either (a .number) (record { call = c; out = a .out } ∷ rest) rest
+
+-- the pixel slices of the accepted row calls, in order
+unfoldable pub rowOf : Call → List (List ℕ)
+rowOf (aRow pixels out) = pixels ∷ []
+rowOf (aDrain out) = []
+
+unfoldable pub rows : List Yielded → List (List ℕ)
+rows [] = []
+rows (y ∷ ys) = rowOf (y .call) ++ rows ys
+
+-- the outputs of the accepted calls, in order
+unfoldable pub outputs : List Yielded → List (List ℕ)
+outputs [] = []
+outputs (y ∷ ys) = y .out ∷ outputs ys
+
+-- row j of a picture
+unfoldable pub pictureRow : Picture → ℕ → List ℕ
+pictureRow p j = part (j * p .width) (p .width) (p .pixels)

@@ -1,0 +1,32 @@
+-- What the private functions of the calls tell of sizes: a number, or 0 and the grown sides with the needed cells.
+use mathlib.Core.Path.{_≡_}
+use mathlib.Core.Bool.{cond}
+use Prim.Native.Nat.{ℕ, _≤_, _<_}
+use Rattle.spec.specs.Recipe.{Recipe}
+use Rattle.spec.specs.Picture.{fullWidth, fullHeight}
+use Rattle.spec.specs.Stream.{State, streamCells}
+use Rattle.spec.specs.Refusals.{first, sizeChecks, badState}
+use Rattle.stream.specs.declared.calls.Sizes.{Sizes as SizesStruct}
+
+-- the sizes, where the number is 0
+pub record Told (r : Recipe) (w h : ℕ) (a : SizesStruct) : Type 0 where
+  pub width : a .width ≡ fullWidth r w
+  pub height : a .height ≡ fullHeight r h
+  pub cells : a .cells ≡ streamCells r w
+
+-- for a recipe and sides
+pub record Sized (r : Recipe) (w h : ℕ) (a : SizesStruct) : Type 0 where
+  pub number : a .refusal ≡ first (sizeChecks r w h)
+  pub told : a .refusal ≡ 0 → Told r w h a
+
+-- for a state
+pub record Gauged (s : State) (a : SizesStruct) : Type 0 where
+  pub number : a .refusal ≡ cond (badState s) 9 0
+  pub told : a .refusal ≡ 0 → Told (s .recipe) (s .width) (s .height) a
+
+-- a state and lengths of output and cells that none of 9, 7 and 8 refuses, with a row still to come
+pub record Ready (s : State) (out cells : ℕ) : Type 0 where
+  pub sizes : first (sizeChecks (s .recipe) (s .width) (s .height)) ≡ 0
+  pub due : s .emitted < fullHeight (s .recipe) (s .height)
+  pub output : out ≡ fullWidth (s .recipe) (s .width)
+  pub enough : streamCells (s .recipe) (s .width) ≤ cells
