@@ -2,17 +2,15 @@
 -- a row down a picture that is stored row by row.
 -- Assumes nothing.
 use mathlib.Core.Path.{_≡_, refl, sym, ap, ap₂, _∙_}
-use mathlib.Core.Bool.{Bool, true, false, cond}
 use mathlib.Core.List.{List, [], _∷_}
 use Prim.Native.Nat.{ℕ, zero, suc, _+_, _-_, _*_, _≤_, _<_}
-use native.Mathlib.Nat.{le-refl, le-trans, le-of-eq, mul-zero, zero-mul, one-mul, mul-one, mul-comm, suc-mul, sub-zero, zero-add, add-zero}
+use native.Mathlib.Nat.{le-refl, le-trans, le-of-eq, mul-zero, zero-mul, one-mul, mul-one, mul-comm, suc-mul, zero-add}
 use native.Mathlib.Decide.{decLe}
 use native.Mathlib.Omega.{arith}
-use lib.Dec.{leb}
-use lib.ListN.{length, List·getD-eq-default}
+use lib.ListN.{List·getD-eq-default}
 use Rattle.spec.specs.Words.{sum, product}
 use Rattle.spec.specs.Recipe.{kernel, order}
-use Rattle.laws.proofs.Sums.{sum-agree, sum-zero, sum-first, sum-split, sum-scale}
+use Rattle.laws.proofs.Sums.{sum-agree, sum-zero, sum-first, sum-split}
 use Rattle.laws.proofs.Lists.{factor-pos}
 use Rattle.laws.proofs.Sequences.{behind, boxed, behind-zero, behind-within, behind-before, behind-agree}
 use Rattle.laws.proofs.Convolution.{conv, ones, conv-agree, conv-comm, conv-assoc, conv-wide, boxed-conv}

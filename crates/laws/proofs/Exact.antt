@@ -3,10 +3,10 @@
 -- Assumes nothing.
 use mathlib.Core.Path.{_≡_, refl, sym, ap, ap₂, _∙_}
 use mathlib.Core.Bool.{Bool, true, false, cond, _&&_}
-use mathlib.Core.List.{List, [], _∷_, _++_, flatten}
-use Prim.Native.Nat.{ℕ, zero, suc, _+_, _-_, _*_, _/_, _%_, _≤_, _<_}
-use native.Mathlib.Nat.{le-refl, le-trans, le-of-eq, add-zero, zero-add, zero-mul, mul-zero, mul-comm, mul-assoc, suc-mul, mul-le-mul, mul-le-mul-left, mul-le-mul-right}
-use native.Mathlib.Decide.{decLe, decLt}
+use mathlib.Core.List.{List, _++_, flatten}
+use Prim.Native.Nat.{ℕ, zero, suc, _+_, _-_, _*_, _≤_, _<_}
+use native.Mathlib.Nat.{le-trans, le-of-eq, zero-mul, mul-comm, mul-assoc, suc-mul, mul-le-mul-left}
+use native.Mathlib.Decide.{decLe}
 use native.Mathlib.Omega.{arith}
 use lib.Dec.{leb, ltb}
 use lib.ListN.{length, getD, length-append, List·getD-append}
@@ -16,10 +16,10 @@ use Rattle.spec.specs.Recipe.{Recipe, kernel, order, gain}
 use Rattle.spec.specs.Picture.{Picture, pixel, pixelBack, exact, fullWidth, fullHeight, fullRow, full}
 use Rattle.laws.proofs.Sums.{sum-agree, sum-le, sum-scale, sum-swap}
 use Rattle.laws.proofs.Lists.{length-tab, getD-tab, factor-pos}
-use Rattle.laws.proofs.Sequences.{behind, behind-within, behind-before, behind-agree}
-use Rattle.laws.proofs.Convolution.{conv, conv-agree}
+use Rattle.laws.proofs.Sequences.{behind, behind-within, behind-before}
+use Rattle.laws.proofs.Convolution.{conv-agree}
 use Rattle.laws.proofs.Kernels.{at, kernel-sum}
-use Rattle.laws.proofs.Cascades.{cascaded, cascaded-agree, cascaded-conv, conv-short, kernel-short, behind-sum, behind-times}
+use Rattle.laws.proofs.Cascades.{cascaded, cascaded-conv, conv-short, kernel-short, behind-sum, behind-times}
 
 -- row j of a picture as a sequence
 unfoldable pub line : Picture → ℕ → ℕ → ℕ

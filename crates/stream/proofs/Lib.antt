@@ -1,6 +1,10 @@
 pub mod Wrapping
 pub mod Rings
 pub mod Boxes
+pub mod Slots
 pub mod Left
 pub mod States
 pub mod Loading
+pub mod Honest
+pub mod Yield
+pub mod Run

@@ -156,10 +156,10 @@ module _ (n : ℕ) (e w : ℕ) (two : 1 < n) where
             inl (ap (λ b. cond b (n - 1) (e % n - 1)) (eq-eqb (e % n) 0 z), z)
       ]
 
-  slot-less : e % n < n
+  pub slot-less : e % n < n
   slot-less = mod-lt e (omega arith)
 
-  before-less : slotBefore n e < n
+  pub before-less : slotBefore n e < n
   before-less = ⊎-elim (λ u. omega (arith, u .0)) (λ u. omega (arith, u .0, slot-less)) before-cases
 
   under : (a b : ℕ) → a < b → a * w + w ≤ b * w

@@ -1,4 +1,5 @@
 pub mod Stages
 pub mod Calls
 pub mod Runs
+pub mod OnePass
 pub mod Sizes

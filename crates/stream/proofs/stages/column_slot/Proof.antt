@@ -1,69 +1,21 @@
 -- `stream::stages::column_slot` meets its contract: the row is written from the left, and the oldest slot with it.
 -- Assumes nothing.
-use mathlib.Core.Logic.{_⊎_, ⊎-elim}
 use native.Mathlib.Nat.{le-refl}
-use Rattle.spec.specs.Words.{tab}
-use Rattle.laws.proofs.Lists.{length-tab, getD-tab}
-use Rattle.laws.proofs.Slices.{Mixed, Rightwards, rightwards-none, rightwards-more, rightwards-all, mixed-front, mixed-back, mixed-up, patched, length-patched, patched-inside, patched-before, patched-none, patched-all}
+use Rattle.laws.proofs.Slices.{Mixed, Rightwards, rightwards-none, rightwards-more, rightwards-all, mixed-back, mixed-up}
+use Rattle.stream.proofs.Slots.{new, begin, end, at-new, apart}
 use Rattle.stream.specs.Stages.{plus, minus, slotTotal, columnSlot}
-use mathlib.Core.Path.{_≡_, sym, ap, ap₂, subst, _∙_}
-use mathlib.Core.List.{List, _++_}
+use mathlib.Core.Path.{_≡_, sym, ap₂, subst, _∙_}
+use mathlib.Core.List.{List}
 use Prim.Native.Nat.{ℕ, _+_, _-_, _≤_, _<_}
 use native.Mathlib.Omega.{arith}
 use borrow.Author.Needs.{needs}
-use lib.ListN.{length, getD, take, drop, set, length-set}
+use lib.ListN.{length, getD, set, length-set}
 use Rattle.stream.proofs.stages.column_slot.Statement.{statement}
 use Rattle.stream.proofs.stages.column_slot.Tie as tie
 
--- what is left of the totals, and what the cells become
+-- what is left of the totals
 abbrev made : ℕ → ℕ → List ℕ → List ℕ → ℕ → ℕ
 made before oldest xs was i = minus (slotTotal before xs was i) (getD was (oldest + i) 0)
-
-module _ (before oldest : ℕ) (xs was : List ℕ) (h : oldest + length xs ≤ length was) where
-  totals : List ℕ
-  totals = tab (length xs) (slotTotal before xs was)
-
-  wide : length totals ≡ length xs
-  unfolding totals
-  wide = length-tab (length xs) (slotTotal before xs was)
-
-  fits : oldest + length totals ≤ length was
-  fits = omega (arith, wide)
-
-  new : List ℕ
-  new = patched oldest totals was fits
-
-  new-is : take oldest was ++ (tab (length xs) (slotTotal before xs was) ++ drop (oldest + length xs) was) ≡ new
-  unfolding new totals patched
-  new-is = ap (λ n. take oldest was ++ (tab (length xs) (slotTotal before xs was) ++ drop (oldest + n) was)) (sym wide)
-
-  size : length new ≡ length was
-  unfolding new
-  size = length-patched oldest totals was fits
-
-  begin : Mixed oldest new was was
-  unfolding new
-  begin = patched-none oldest totals was fits 0
-
-  end : (i : ℕ) (l : List ℕ) → Mixed (oldest + i) new was l → length xs ≤ i
-      → l ≡ take oldest was ++ (tab (length xs) (slotTotal before xs was) ++ drop (oldest + length xs) was)
-  unfolding new
-  end i l m g = patched-all oldest totals was fits 0 m (omega (arith, wide)) ∙ sym new-is
-
-  -- the totals go to their places
-  at-new : (i : ℕ) → i < length xs → getD new (oldest + i) 0 ≡ slotTotal before xs was i
-  unfolding new totals
-  at-new i g = patched-inside oldest totals was fits 0 i (omega (arith, wide)) ∙ getD-tab (length xs) (slotTotal before xs was) i 0 g
-
-  -- the slot before is not touched
-  apart : (before + length xs ≤ oldest) ⊎ (oldest + length xs ≤ before) → (i : ℕ) (l : List ℕ) → i < length xs → Mixed (oldest + i) new was l
-      → getD l (before + i) 0 ≡ getD was (before + i) 0
-  unfolding new
-  apart d i l g m =
-      ⊎-elim
-      (λ u. mixed-front 0 m (before + i) (omega arith) ∙ patched-before oldest totals was fits 0 (before + i) (omega arith))
-      (λ u. mixed-back 0 m (before + i) (omega arith))
-      d
 
 abbrev Inv-loop : tie.InvT-loop
 Inv-loop row₀ own₀ before oldest i₀ i-end row own i =

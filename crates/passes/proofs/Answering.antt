@@ -1,0 +1,84 @@
+-- What the method answers and leaves in the two slices, check by check.
+-- Assumes nothing.
+use mathlib.Core.Path.{_≡_, refl, sym, ap, ap₂, _∙_}
+use mathlib.Core.Bool.{not, cond}
+use mathlib.Core.List.{List, _++_}
+use Prim.Native.Nat.{ℕ, _-_, _*_, _≤_, _<_}
+use native.Mathlib.Nat.{sub-zero}
+use native.Mathlib.Omega.{arith}
+use lib.ListN.{length, take, drop}
+use lib.Seq.{take-at}
+use borrow.Author.Tests.{eq-eqb, ne-eqb, lt-ltb, le-ltb}
+use Rattle.spec.specs.Recipe.{Recipe}
+use Rattle.spec.specs.Picture.{Picture, full}
+use Rattle.spec.specs.Refusals.{check, first, otherPixels, otherOutput, tooFewCells, fullSize, sizeChecks, pictureChecks, passChecks}
+use Rattle.laws.proofs.Refusals.{first-front, first-rest, first-then, lent-refused, lent-accepted, size-numbered, picture-numbered}
+use Rattle.passes.specs.Passed.{checks, Passed}
+
+-- the needed cells came back as ys, and the others were not lent
+pub cells-after : (lent needed : ℕ) → lent ≡ needed → (ys cells : List ℕ) → length ys ≡ lent
+    → ys ++ drop (lent - 0) cells ≡ take needed (ys ++ drop (lent - 0) cells) ++ drop needed cells
+cells-after lent needed q ys cells e =
+    ap₂ _++_ (sym (take-at ys (drop (lent - 0) cells) needed (e ∙ q))) (ap (λ n. drop n cells) (sub-zero lent ∙ q))
+
+module _ (r : Recipe) (p : Picture) (out cells : List ℕ) where
+  refused-by : (n : ℕ) → first (checks r p out cells) ≡ n → (n ≡ 0 → ⊥) → Passed r p out cells n out cells
+  refused-by n e h =
+      record {
+        answer = sym e;
+        sums = sym (lent-refused _ _ out n e h);
+        work = sym (lent-refused _ _ cells n e h);
+        count = refl;
+      }
+
+  -- 1 to 5
+  pub passed-size : (n : ℕ) → first (sizeChecks r (p .width) (p .height)) ≡ n → (n ≡ 0 → ⊥) → Passed r p out cells n out cells
+  unfolding passChecks pictureChecks
+  passed-size n e h =
+      refused-by n (first-front (pictureChecks r p) _ n (first-front (sizeChecks r (p .width) (p .height)) _ n e h) h) h
+
+  module _ (z : first (sizeChecks r (p .width) (p .height)) ≡ 0) where
+    six : first (pictureChecks r p) ≡ cond (otherPixels (length (p .pixels)) (p .width * p .height)) 6 0
+    unfolding pictureChecks
+    six = first-then (sizeChecks r (p .width) (p .height)) _ 6 (size-numbered r (p .width) (p .height)) z
+
+    pub passed-pixels : (length (p .pixels) ≡ p .width * p .height → ⊥) → Passed r p out cells 6 out cells
+    unfolding passChecks otherPixels
+    passed-pixels h =
+        let e : first (pictureChecks r p) ≡ 6 =
+        six ∙ ap (λ b. cond (not b) 6 0) (ne-eqb (length (p .pixels)) (p .width * p .height) h) in
+        refused-by 6 (first-front (pictureChecks r p) _ 6 e (λ q. omega arith)) (λ q. omega arith)
+
+    module _ (l : length (p .pixels) ≡ p .width * p .height) where
+      pub picture-accepted : first (pictureChecks r p) ≡ 0
+      unfolding otherPixels
+      picture-accepted = six ∙ ap (λ b. cond (not b) 6 0) (eq-eqb (length (p .pixels)) (p .width * p .height) l)
+
+      -- 7 and 8 go by the lengths of the slices
+      lengths : first (checks r p out cells) ≡ cond (otherOutput (length out) (fullSize r p)) 7 (cond (tooFewCells (length cells) (fullSize r p)) 8 0)
+      unfolding passChecks first check
+      lengths = first-rest (pictureChecks r p) _ (picture-numbered r p) picture-accepted
+
+      pub passed-output : (length out ≡ fullSize r p → ⊥) → Passed r p out cells 7 out cells
+      unfolding otherOutput
+      passed-output h = refused-by 7 (lengths ∙ rw (ne-eqb (length out) (fullSize r p) h) refl) (λ q. omega arith)
+
+      module _ (m : length out ≡ fullSize r p) where
+        pub passed-cells : length cells < fullSize r p → Passed r p out cells 8 out cells
+        unfolding otherOutput tooFewCells
+        passed-cells h =
+            refused-by 8 (lengths ∙ rw (eq-eqb (length out) (fullSize r p) m, lt-ltb (length cells) (fullSize r p) h) refl) (λ q. omega arith)
+
+        pub passed-all : fullSize r p ≤ length cells → (newOut newCells : List ℕ) → newOut ≡ full r p
+            → newCells ≡ take (fullSize r p) newCells ++ drop (fullSize r p) cells → length newCells ≡ length cells
+            → Passed r p out cells 0 newOut newCells
+        unfolding otherOutput tooFewCells
+        passed-all h newOut newCells s w n =
+            let e : first (checks r p out cells) ≡ 0 =
+            lengths ∙ rw (eq-eqb (length out) (fullSize r p) m, le-ltb (length cells) (fullSize r p) h) refl in
+            record {
+              answer = sym e;
+              sums = s ∙ sym (lent-accepted _ (full r p) out e);
+              work = w ∙ sym (lent-accepted _ _ cells e);
+              count = n;
+            }

@@ -1,0 +1,157 @@
+-- The grown picture as one sequence, row by row: a cascade along the rows is one along the sequence, since the black places at the
+-- end of each row keep the rows apart, and a cascade down the columns is one with a spread of a row.
+-- Assumes nothing.
+use mathlib.Core.Path.{_≡_, refl, sym, ap, ap₂, _∙_}
+use mathlib.Core.Bool.{Bool, true, false, cond, _&&_}
+use mathlib.Core.List.{List, [], _∷_}
+use Prim.Native.Nat.{ℕ, zero, suc, _+_, _-_, _*_, _/_, _%_, _≤_, _<_}
+use native.Mathlib.Nat.{le-trans, le-of-eq, add-zero, zero-mul, suc-mul, add-mul, mul-one, mul-comm, mul-le-mul-right, mod-lt, mod-eq-of-lt, div-eq-of-lt, div-add-mod', mul-add-div-right, mul-add-mod-self-right, div-lt-iff-lt-mul}
+use native.Mathlib.Decide.{decLe}
+use native.Mathlib.Omega.{arith}
+use lib.Dec.{ltb}
+use lib.ListN.{length, getD}
+use lib.Seq.{ext-getD}
+use borrow.Author.Tests.{lt-ltb, le-ltb}
+use Rattle.spec.specs.Recipe.{Recipe, kernel, order, gain}
+use Rattle.spec.specs.Picture.{Picture, pixel, exact, fullWidth, fullHeight, full}
+use Rattle.laws.proofs.Sums.{sum-agree}
+use Rattle.laws.proofs.Sequences.{behind, behind-within, behind-before}
+use Rattle.laws.proofs.Kernels.{at, Holds}
+use Rattle.laws.proofs.Cascades.{spread, cascaded, cascaded-agree, cascaded-conv, conv-short, kernel-short}
+use Rattle.laws.proofs.Exact.{line, rows-pos, exact-cascaded, exact-small, length-full, getD-full}
+use Rattle.passes.specs.Steps.{flat}
+
+-- column i of row j, in rows of W places
+module _ (W : ℕ) (i : ℕ) (h : i < W) where
+  pub row-of : (j : ℕ) → (j * W + i) / W ≡ j
+  row-of j =
+      let g : 0 < W = omega arith in
+      mul-add-div-right g j i ∙ ap (λ x. j + x) (div-eq-of-lt h) ∙ add-zero j
+
+  pub column-of : (j : ℕ) → (j * W + i) % W ≡ i
+  column-of j = mul-add-mod-self-right j W i ∙ mod-eq-of-lt h
+
+  pub flat-at : (p : Picture) (j : ℕ) → flat p W (j * W + i) ≡ pixel p i j
+  unfolding flat
+  flat-at p j = ap₂ (pixel p) (column-of j) (row-of j)
+
+  -- a rows up is a times W places back
+  rows-up : (g : ℕ → ℕ) (a v : ℕ) → behind g (a * W) (v * W + i) ≡ behind (λ u. g (u * W + i)) a v
+  rows-up g a v =
+      elim (decLe a v) [
+        | yes l ↦
+            let m : a * W ≤ v * W = mul-le-mul-right W l in
+            let e : v * W + i - a * W ≡ (v - a) * W + i = omega (arith, apart a v l) in
+            behind-within g (a * W) (v * W + i) (omega arith) ∙ ap g e ∙ sym (behind-within (λ u. g (u * W + i)) a v l)
+        | no l ↦
+            let m : suc v * W ≤ a * W = mul-le-mul-right W (omega arith) in
+            behind-before g (a * W) (v * W + i) (omega (arith, suc-mul v W)) ∙ sym (behind-before (λ u. g (u * W + i)) a v (omega arith))
+      ]
+    where
+      apart : (a v : ℕ) → a ≤ v → v * W ≡ (v - a) * W + a * W
+      apart a v l =
+          let e : v ≡ (v - a) + a = omega arith in
+          ap (λ x. x * W) e ∙ add-mul (v - a) a W
+
+  -- a cascade down the columns
+  pub cascaded-down : (ns : List ℕ) (g : ℕ → ℕ) (j : ℕ) → cascaded W ns g (j * W + i) ≡ cascaded 1 ns (λ v. g (v * W + i)) j
+  unfolding cascaded spread
+  cascaded-down [] g j = refl
+  cascaded-down (n ∷ ns) g j =
+      cascaded-down ns (spread W n g) j
+      ∙ cascaded-agree 1 ns (λ v. spread W n g (v * W + i)) (spread 1 n (λ v. g (v * W + i))) j
+      (λ v l.
+      sum-agree (λ a. behind g (a * W) (v * W + i)) (λ a. behind (λ u. g (u * W + i)) (a * 1) v) n
+      (λ a m. rows-up g a v ∙ ap (λ b. behind (λ u. g (u * W + i)) b v) (sym (mul-one a))))
+
+-- black outside the picture
+pub pixel-right : (p : Picture) (i j : ℕ) → p .width ≤ i → pixel p i j ≡ 0
+unfolding pixel
+pixel-right p i j h = rw (le-ltb i (p .width) h) refl
+
+pub pixel-below : (p : Picture) (i j : ℕ) → p .height ≤ j → pixel p i j ≡ 0
+unfolding pixel
+pixel-below p i j h = rw (le-ltb j (p .height) h) (go (ltb i (p .width)))
+  where
+    go : (b : Bool) → cond (b && false) (getD (p .pixels) (j * p .width + i) 0) 0 ≡ 0
+    go true = refl
+    go false = refl
+
+pub pixel-inside : (p : Picture) (i j : ℕ) → i < p .width → j < p .height → pixel p i j ≡ at (p .pixels) (j * p .width + i)
+unfolding pixel at
+pixel-inside p i j h l = rw (lt-ltb i (p .width) h, lt-ltb j (p .height) l) refl
+
+module _ (r : Recipe) (p : Picture) where
+  abbrev W : ℕ
+  W = p .width + order (r .rows)
+
+  -- going back no more than the row reach never meets a pixel of the row above
+  back-along : (i j a : ℕ) → i < W → a ≤ order (r .rows) → behind (flat p W) a (j * W + i) ≡ behind (line p j) a i
+  unfolding line
+  back-along i j a h l =
+      elim (decLe a i) [
+        | yes g ↦
+            let e : j * W + i - a ≡ j * W + (i - a) = omega arith in
+            behind-within (flat p W) a (j * W + i) (omega arith)
+            ∙ ap (flat p W) e
+            ∙ flat-at W (i - a) (omega arith) p j
+            ∙ sym (behind-within (line p j) a i g)
+        | no g ↦ above (omega arith) j ∙ sym (behind-before (line p j) a i (omega arith))
+      ]
+    where
+      above : i < a → (v : ℕ) → behind (flat p W) a (v * W + i) ≡ 0
+      above g zero = behind-before (flat p W) a (0 * W + i) (omega (arith, zero-mul W))
+      above g (suc v) =
+          let e : suc v * W + i - a ≡ v * W + (W + i - a) = omega (arith, suc-mul v W) in
+          behind-within (flat p W) a (suc v * W + i) (omega (arith, suc-mul v W))
+          ∙ ap (flat p W) e
+          ∙ flat-at W (W + i - a) (omega arith) p v
+          ∙ pixel-right p (W + i - a) v (omega arith)
+
+  -- a cascade along the rows
+  pub cascaded-along : 0 < gain r → (i j : ℕ) → i < W → cascaded 1 (r .rows) (flat p W) (j * W + i) ≡ cascaded 1 (r .rows) (line p j) i
+  cascaded-along g i j h =
+      let R = at (kernel (r .rows)) in
+      let m = order (r .rows) in
+      let short = kernel-short (r .rows) (rows-pos r p g) in
+      cascaded-conv (r .rows) (flat p W) (j * W + i)
+      ∙ conv-short R (flat p W) m (j * W + i) short
+      ∙ sum-agree (λ a. R a * behind (flat p W) a (j * W + i)) (λ a. R a * behind (line p j) a i) (suc m)
+      (λ a l. ap (λ x. R a * x) (back-along i j a h (omega arith)))
+      ∙ sym (cascaded-conv (r .rows) (line p j) i ∙ conv-short R (line p j) m i short)
+
+  -- both cascades
+  unfoldable pub passed : ℕ → ℕ
+  passed k = cascaded W (r .columns) (cascaded 1 (r .rows) (flat p W)) k
+
+  pub passed-exact : 0 < gain r → (i j : ℕ) → i < W → passed (j * W + i) ≡ exact r p i j
+  unfolding passed
+  passed-exact g i j h =
+      cascaded-down W i h (r .columns) (cascaded 1 (r .rows) (flat p W)) j
+      ∙ cascaded-agree 1 (r .columns) (λ v. cascaded 1 (r .rows) (flat p W) (v * W + i)) (λ v. cascaded 1 (r .rows) (line p v) i) j
+      (λ v l. cascaded-along g i v h)
+      ∙ sym (exact-cascaded r p g i j)
+
+  -- a list of the grown size that holds it is the list of all exact sums
+  module _ (g : 0 < gain r) (w : 0 < p .width) where
+    pub passed-full : (l : List ℕ) → length l ≡ W * fullHeight r (p .height) → Holds passed l → l ≡ full r p
+    unfolding fullWidth at
+    passed-full l e h =
+        let H = fullHeight r (p .height) in
+        let pos : 0 < W = omega arith in
+        ext-getD 0 l (full r p) (omega (arith, length-full r p, mul-comm W H))
+        (λ k m.
+        let q : k / W * W + k % W ≡ k = div-add-mod' k W in
+        let u : k < H * W = omega (arith, mul-comm W H) in
+        h k m
+        ∙ ap passed (sym q)
+        ∙ passed-exact g (k % W) (k / W) (mod-lt k pos)
+        ∙ sym (getD-full r p (k / W) (k % W) (div-lt-iff-lt-mul pos .1 u) (mod-lt k pos))
+        ∙ ap (λ n. getD (full r p) n 0) q)
+
+    pub passed-small : ((k : ℕ) → getD (p .pixels) k 0 ≤ 255) → (k : ℕ) → passed k ≤ 255 * gain r
+    passed-small small k =
+        let pos : 0 < W = omega arith in
+        let q : k / W * W + k % W ≡ k = div-add-mod' k W in
+        le-trans (le-of-eq (ap passed (sym q) ∙ passed-exact g (k % W) (k / W) (mod-lt k pos)))
+        (exact-small r p small (k % W) (k / W))

@@ -1,0 +1,93 @@
+// The widths of a list in turn, from one buffer to the other and back.
+ghost use mathlib.Core.Path.{_≡_};
+ghost use Prim.Native.Nat.{_≤_, _<_};
+ghost use lib.ListN.{length};
+ghost use Rattle.spec.specs.Words.{product};
+ghost use Rattle.spec.specs.Recipe.{widths};
+ghost use Rattle.laws.proofs.Kernels.{at, Holds};
+ghost use Rattle.laws.proofs.Cascades.{spread, cascaded};
+ghost use Rattle.passes.specs.Steps.{Below, Small, Ready, Grid, present, turned, turnedBy};
+use crate::columns::column_pass;
+use crate::rows::row_pass;
+use spec::Cascade;
+
+// A width as a number of places.
+fn places(n: u8) -> usize
+    ensures { λ r. ⌜ (r ≡ n) × (r ≤ 255) ⌝ }
+{
+    n as usize
+}
+
+// One width, with a spread of so many places: 1 along the rows, a row down the columns.
+fn pass(step: usize, n: usize, rows: usize, src: &[u64], dst: &mut [u64])
+    requires { ⌜ Ready step n (now src) (now dst) × Grid rows step n (now src) ⌝ }
+    ensures { λ r. ⌜ Holds (spread step n (at (now (src .entry)))) (now (dst .exit)) ⌝ }
+{
+    if step == 1 {
+        row_pass(n, src, dst);
+    } else {
+        column_pass(step, n, rows, src, dst);
+    }
+}
+
+// One width, from the buffer that holds the picture into the other. A width of 1 is no pass. Returns
+// whether `out` then holds the picture.
+fn turn(step: usize, n: usize, rows: usize, in_out: bool, out: &mut [u64], work: &mut [u64]) -> bool
+    requires { ⌜ Ready step n (present «in_out» (now out) (now work)) (now out) × (length (now work) ≡ length (now out)) × Grid rows step n (now out) ⌝ }
+    ensures { λ r. ⌜ (r ≡ turned n «in_out»)
+        × Below (length (now (out .entry))) (spread step n (at (present «in_out» (now (out .entry)) (now (work .entry))))) (present r (now (out .exit)) (now (work .exit))) ⌝ }
+{
+    if n == 1 {
+        return in_out;
+    }
+    if in_out {
+        pass(step, n, rows, out, work);
+        return false;
+    }
+    pass(step, n, rows, work, out);
+    true
+}
+
+// The buffer on the other side of one width.
+fn other(n: u8, in_out: bool) -> bool
+    ensures { λ r. ⌜ r ≡ turned n «in_out» ⌝ }
+{
+    if n != 1 { !in_out } else { in_out }
+}
+
+// Where the picture has to be before the widths of a list to be in a given buffer after them: `out` is
+// true. Widths above 1 change the buffer, so that this goes forwards as well as backwards.
+pub(crate) fn turns(list: Cascade, in_out: bool) -> bool
+    requires { ⌜ list .count ≤ 48 ⌝ }
+    ensures { λ r. ⌜ r ≡ turnedBy (widths list) «in_out» ⌝ }
+{
+    let mut held = in_out;
+    for i in 0..list.count as usize {
+        held = other(list.widths[i], held);
+    }
+    held
+}
+
+// The widths of a list in turn. Returns whether `out` then holds the picture.
+pub(crate) fn cascade(
+    list: Cascade,
+    step: usize,
+    rows: usize,
+    in_out: bool,
+    out: &mut [u64],
+    work: &mut [u64],
+) -> bool
+    requires { ⌜ (list .count ≤ 48) × (0 < product (widths list)) × (length (now work) ≡ length (now out)) × Grid rows step 255 (now out)
+        × Small (length (now out)) (cascaded step (widths list) (at (present «in_out» (now out) (now work)))) ⌝ }
+    ensures { λ r. ⌜ (r ≡ turnedBy (widths list) «in_out»)
+        × Below (length (now (out .entry))) (cascaded step (widths list) (at (present «in_out» (now (out .entry)) (now (work .entry))))) (present r (now (out .exit)) (now (work .exit))) ⌝ }
+{
+    let count = list.count as usize;
+    let mut held = in_out;
+    let mut i: usize = 0;
+    while i < count {
+        held = turn(step, places(list.widths[i]), rows, held, out, work);
+        i += 1;
+    }
+    held
+}

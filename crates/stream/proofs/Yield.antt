@@ -1,0 +1,176 @@
+-- One row through all stages, from honest cells: the grown row of exact sums.
+-- Assumes nothing.
+use mathlib.Core.Path.{_≡_, refl, sym, ap, ap₂, subst, _∙_}
+use mathlib.Core.Bool.{Bool, true, false, cond, _&&_}
+use mathlib.Core.List.{List, [], _++_}
+use Prim.Native.Nat.{ℕ, _+_, _*_, _%_, _^_, _≤_, _<_}
+use native.Mathlib.Nat.{le-trans, le-of-eq, mul-le-mul-left}
+use native.Mathlib.Decide.{decLt}
+use native.Mathlib.Omega.{arith}
+use lib.Dec.{ltb}
+use lib.ListN.{length, getD, take, drop, length-append, length-drop, replicate, length-replicate, getD-replicate, List·getD-append}
+use lib.Seq.{length-take-le, drop-append-seam, getD-drop}
+use borrow.Author.Tests.{lt-ltb, le-ltb}
+use Rattle.spec.specs.Words.{tab, part, total}
+use Rattle.spec.specs.Recipe.{Recipe, gain}
+use Rattle.spec.specs.Picture.{Picture, pixel, exact, fullWidth, fullRow}
+use Rattle.spec.specs.Stream.{boxCells, cascadeCells, streamCells}
+use Rattle.laws.proofs.Lists.{length-tab, getD-tab, getD-tab-past, tab-agree, total-scale}
+use Rattle.laws.proofs.Kernels.{at, holds-tab}
+use Rattle.laws.proofs.Cascades.{cascaded}
+use Rattle.laws.proofs.Exact.{line, exact-cascaded, exact-small, pixel-small, rows-pos, columns-pos}
+use Rattle.stream.specs.Stages.{Worked, rowStage, columnStage, stages, across, down, worked, entering}
+use Rattle.stream.specs.Runs.{pictureRow}
+use Rattle.stream.proofs.Left.{stages-keep}
+use Rattle.stream.proofs.Honest.{Follows, KeptAll, row-keeps, column-keeps, rows-follow, columns-follow, zeros-kept}
+
+module _ (r : Recipe) (p : Picture) where
+  -- the grown width
+  abbrev pub W : ℕ
+  W = fullWidth r (p .width)
+
+  -- row j through the row list
+  unfoldable pub passed : ℕ → ℕ → ℕ
+  passed j i = cascaded 1 (r .rows) (line p j) i
+
+  -- honest cells after e rows: enough of them, and those of the column list hold what they should
+  pub record Honest (e : ℕ) (cells : List ℕ) : Type 0 where
+    pub enough : streamCells r (p .width) ≤ length cells
+    pub kept : KeptAll W (r .columns) passed e (drop (cascadeCells (r .rows)) cells)
+
+  needed : (cells : List ℕ) → streamCells r (p .width) ≤ length cells
+      → (cascadeCells (r .rows) ≤ length cells) × (total (λ n. W * boxCells n) (r .columns) ≤ length (drop (cascadeCells (r .rows)) cells))
+  unfolding streamCells cascadeCells
+  needed cells h =
+      let w = fullWidth r (p .width) in
+      let rc = total boxCells (r .rows) in
+      (omega arith, le-trans (le-of-eq (total-scale boxCells w (r .columns))) (omega (arith, length-drop rc cells)))
+
+  -- any row and any cells keep their lengths
+  pub cells-length : (e : ℕ) (row cells : List ℕ) → length row ≡ W → streamCells r (p .width) ≤ length cells
+      → length (worked r e row cells .cells) ≡ length cells
+  unfolding worked across down cascadeCells
+  cells-length e row cells l h =
+      let rc = total boxCells (r .rows) in
+      let room = needed cells h in
+      let size : length (take rc cells) ≡ rc = length-take-le rc cells (room .0) in
+      let one = stages-keep W boxCells rowStage (row-keeps W) (r .rows) row (take rc cells) l (le-of-eq (sym size)) in
+      let first = stages boxCells rowStage (r .rows) row (take rc cells) in
+      let second = stages (λ n. length (first .row) * boxCells n) (columnStage e) (r .columns) (first .row) (drop rc cells) in
+      let same : stages (λ n. W * boxCells n) (columnStage e) (r .columns) (first .row) (drop rc cells) ≡ second =
+      ap (λ w. stages (λ n. w * boxCells n) (columnStage e) (r .columns) (first .row) (drop rc cells)) (sym (one .0)) in
+      let two = stages-keep W (λ n. W * boxCells n) (columnStage e) (column-keeps W e) (r .columns) (first .row) (drop rc cells) (one .0) (room .1) in
+      let long : length (second .cells) ≡ length (drop rc cells) = ap (λ (x : Worked). length (x .cells)) (sym same) ∙ two .1 in
+      omega (arith, length-append (first .cells) (second .cells), one .1, size, long, length-drop rc cells, room .0)
+
+  module _ (pos : 0 < gain r) (light : gain r ≤ 2 ^ 44) (small : (k : ℕ) → getD (p .pixels) k 0 ≤ 255) where
+    exact-fits : (i j : ℕ) → exact r p i j % 2 ^ 64 ≡ exact r p i j
+    exact-fits i j =
+        let h : exact r p i j ≤ 255 * 2 ^ 44 = le-trans (exact-small r p small i j) (mul-le-mul-left 255 light) in
+        omega arith
+
+    -- the row that enters
+    entered : (e : ℕ) (row : List ℕ) → row ≡ tab W (line p e) → Follows W (line p e) row
+    unfolding at line
+    entered e row d =
+        record {
+          wide = ap length d ∙ length-tab W (line p e);
+          values = λ k h. ap (λ l. getD l k 0) d ∙ getD-tab W (line p e) k 0 h ∙ omega (arith, pixel-small r p small k e);
+        }
+
+    module _ (e : ℕ) (row cells : List ℕ) (is : row ≡ tab W (line p e)) (h : Honest e cells) where
+      first : Worked
+      first = across r row cells
+
+      along : Follows W (passed e) (first .row) × (length (first .cells) ≡ cascadeCells (r .rows))
+      unfolding across cascadeCells first passed
+      along =
+          let rc = total boxCells (r .rows) in
+          let size : length (take rc cells) ≡ rc = length-take-le rc cells (needed cells (h .enough) .0) in
+          let both = rows-follow W (r .rows) (line p e) row (take rc cells) (rows-pos r p pos) size (entered e row is) in
+          (both .0, both .1 ∙ size)
+
+      second : Worked
+      second = down r e (first .row) cells
+
+      downwards : Follows W (λ i. exact r p i e) (second .row) × KeptAll W (r .columns) passed (e + 1) (second .cells)
+          × (length (second .cells) ≡ length (drop (cascadeCells (r .rows)) cells))
+      unfolding down second passed
+      downwards =
+          let back = drop (cascadeCells (r .rows)) cells in
+          let made =
+          columns-follow W (r .columns) passed e (first .row) back (columns-pos r p pos) (needed cells (h .enough) .1) (along .0) (h .kept) in
+          let same : stages (λ n. W * boxCells n) (columnStage e) (r .columns) (first .row) back
+          ≡ stages (λ n. length (first .row) * boxCells n) (columnStage e) (r .columns) (first .row) back =
+          ap (λ w. stages (λ n. w * boxCells n) (columnStage e) (r .columns) (first .row) back) (sym (along .0 .wide)) in
+          let ends = subst (λ (x : Worked). Follows W (λ i. cascaded 1 (r .columns) (λ j. passed j i) e) (x .row)) same (made .0) in (
+            record { wide = ends .wide; values = λ k l. ends .values k l ∙ ap (λ x. x % 2 ^ 64) (sym (exact-cascaded r p pos k e)) },
+            subst (λ (x : Worked). KeptAll W (r .columns) passed (e + 1) (x .cells)) same (made .1),
+            ap (λ (x : Worked). length (x .cells)) (sym same) ∙ made .2,
+          )
+
+      -- the row that comes out, and the cells that are left
+      pub row-yielded : worked r e row cells .row ≡ fullRow r p e
+      unfolding worked fullRow first second
+      row-yielded =
+          let out = downwards .0 in
+          holds-tab (λ i. exact r p i e) (second .row) (λ k l. out .values k (omega (arith, out .wide)) ∙ exact-fits k e)
+          ∙ ap (λ n. tab n (λ i. exact r p i e)) (out .wide)
+
+      pub cells-honest : Honest (e + 1) (worked r e row cells .cells)
+      unfolding worked first second
+      cells-honest =
+          let left : drop (cascadeCells (r .rows)) (first .cells ++ second .cells) ≡ second .cells =
+          ap (λ n. drop n (first .cells ++ second .cells)) (sym (along .1)) ∙ drop-append-seam (first .cells) (second .cells) in
+          record {
+            enough = le-trans (h .enough) (le-of-eq (sym (cells-length e row cells (ap length is ∙ length-tab W (line p e)) (h .enough))));
+            kept = subst (KeptAll W (r .columns) passed (e + 1)) (sym left) (downwards .1);
+          }
+
+-- The rows that enter: a row of the picture with black places after it, and below the picture a black row.
+module _ (r : Recipe) (p : Picture) where
+  pub entering-row : (e : ℕ) → e < p .height → entering r (p .width) (pictureRow p e) ≡ tab (fullWidth r (p .width)) (line p e)
+  unfolding entering pictureRow part line pixel
+  entering-row e h =
+      let w = p .width in
+      let row : ℕ → ℕ = λ k. getD (p .pixels) (e * w + k) 0 in
+      tab-agree (fullWidth r w) (λ i. getD (tab w row) i 0) (line p e)
+      (λ i l.
+      elim (decLt i w) [
+        | yes g ↦
+            getD-tab w row i 0 g ∙ sym (ap₂ (λ a b. cond (a && b) (getD (p .pixels) (e * w + i) 0) 0) (lt-ltb i w g) (lt-ltb e (p .height) h))
+        | no g ↦
+            let u : w ≤ i = omega arith in
+            getD-tab-past w row i 0 u ∙ sym (ap (λ a. cond (a && ltb e (p .height)) (getD (p .pixels) (e * w + i) 0) 0) (le-ltb i w u))
+      ])
+
+  pub entering-black : (e : ℕ) → p .height ≤ e → entering r (p .width) [] ≡ tab (fullWidth r (p .width)) (line p e)
+  unfolding entering line pixel
+  entering-black e h =
+      tab-agree (fullWidth r (p .width)) (λ i. getD {A = ℕ} [] i 0) (line p e)
+      (λ i l. sym (ap (λ b. cond (ltb i (p .width) && b) (getD (p .pixels) (e * p .width + i) 0) 0) (le-ltb e (p .height) h) ∙ none (ltb i (p .width)) _))
+    where
+      none : (b : Bool) (x : ℕ) → cond (b && false) x 0 ≡ 0
+      none true x = refl
+      none false x = refl
+
+  -- the cells of an accepted start
+  pub start-honest : 0 < gain r → (cells : List ℕ) → streamCells r (p .width) ≤ length cells
+      → Honest r p 0 (replicate (streamCells r (p .width)) 0 ++ drop (streamCells r (p .width)) cells)
+  unfolding streamCells cascadeCells at
+  start-honest pos cells h =
+      let n = streamCells r (p .width) in
+      let rc = cascadeCells (r .rows) in
+      let new = replicate n 0 ++ drop n cells in
+      let long : n ≤ length new = omega (arith, length-append (replicate n 0) (drop n cells), length-replicate {A = ℕ} n 0) in
+      let room = needed r p new long in
+      record {
+        enough = long;
+        kept =
+            zeros-kept (W r p) (r .columns) (passed r p) (drop rc new) (columns-pos r p pos) (room .1)
+            (λ k g.
+            let q : rc + k < n = omega (arith, total-scale boxCells (W r p) (r .columns)) in
+            getD-drop rc new k 0
+            ∙ List·getD-append (replicate n 0) (drop n cells) 0 (rc + k) (omega (arith, length-replicate {A = ℕ} n 0))
+            ∙ getD-replicate n (rc + k) 0 0 q);
+      }
