@@ -1,5 +1,6 @@
-// The calls of the library for C and Rust. A cascade is given as its count and its 48 bytes. Each call
-// returns document 01's number, 0 where it is accepted; on a refusal nothing is written.
+// The calls of the library for C and Rust. A cascade is given as its count and its 48 bytes, a state of
+// the one pass as its seven fields, which the call rewrites. Each call returns document 01's number, 0
+// where it is accepted; on a refusal nothing else is written.
 ghost use mathlib.Core.Path.{_≡_};
 ghost use Rattle.spec.specs.Words.{part};
 ghost use Rattle.spec.specs.Recipe.{recipe, order, gain};
@@ -7,13 +8,18 @@ ghost use Rattle.spec.specs.Picture.{fullWidth, fullHeight};
 ghost use Rattle.spec.specs.Stream.{streamCells};
 ghost use Rattle.spec.specs.Gray.{variance};
 ghost use Rattle.spec.specs.Refusals.{first, lent, recipeChecks, sizeChecks, cellChecks};
+ghost use Rattle.spec.specs.Cases.{picture};
 ghost use Rattle.filter.specs.Filled.{Filled};
-ghost use Rattle.bore_c.specs.Given.{given};
+ghost use Rattle.direct.specs.Formed.{Formed};
+ghost use Rattle.passes.specs.Passed.{Passed};
+ghost use Rattle.stream.specs.Calls.{start, push, drain};
+ghost use Rattle.bore_c.specs.Given.{given, givenState, began, called};
 use filter::Card;
 use filter::Cells;
 use filter::FullSize;
 use spec::Cascade;
 use spec::Filter;
+use stream::State;
 
 fn filter_of(row_count: u8, rows: &[u8; 48], column_count: u8, columns: &[u8; 48]) -> Filter
     ensures { λ r. ⌜ recipe r ≡ given «row_count» (now (rows .entry)) «column_count» (now (columns .entry)) ⌝ }
@@ -149,4 +155,239 @@ pub extern "C" fn bore_moments(
             0
         }
     }
+}
+
+// All exact sums of a picture by the direct method, with both lists of coefficients: 1 to 7.
+#[no_mangle]
+pub extern "C" fn bore_direct(
+    row_count: u8,
+    rows: &[u8; 48],
+    column_count: u8,
+    columns: &[u8; 48],
+    width: usize,
+    height: usize,
+    pixels: &[u8],
+    row_kernel: &mut [u64],
+    column_kernel: &mut [u64],
+    out: &mut [u64],
+) -> u8
+    ensures { λ r. let g = given «row_count» (now (rows .entry)) «column_count» (now (columns .entry)) in
+        ⌜ Formed g (picture width height (now (pixels .entry))) (now («row_kernel» .entry)) (now («column_kernel» .entry)) (now (out .entry))
+        r (now («row_kernel» .exit)) (now («column_kernel» .exit)) (now (out .exit)) ⌝ }
+{
+    direct::direct(
+        filter_of(row_count, rows, column_count, columns),
+        width,
+        height,
+        pixels,
+        row_kernel,
+        column_kernel,
+        out,
+    )
+}
+
+// All exact sums of a picture, pass by pass: 1 to 8.
+#[no_mangle]
+pub extern "C" fn bore_passes(
+    row_count: u8,
+    rows: &[u8; 48],
+    column_count: u8,
+    columns: &[u8; 48],
+    width: usize,
+    height: usize,
+    pixels: &[u8],
+    out: &mut [u64],
+    cells: &mut [u64],
+) -> u8
+    ensures { λ r. let g = given «row_count» (now (rows .entry)) «column_count» (now (columns .entry)) in
+        ⌜ Passed g (picture width height (now (pixels .entry))) (now (out .entry)) (now (cells .entry)) r (now (out .exit)) (now (cells .exit)) ⌝ }
+{
+    passes::passes(
+        filter_of(row_count, rows, column_count, columns),
+        width,
+        height,
+        pixels,
+        out,
+        cells,
+    )
+}
+
+// A state of the one pass, from its fields and back to them.
+fn state_of(
+    row_count: u8,
+    rows: &[u8; 48],
+    column_count: u8,
+    columns: &[u8; 48],
+    width: usize,
+    height: usize,
+    emitted: usize,
+) -> State
+    ensures { λ r. ⌜ r ≡ givenState «row_count» (now (rows .entry)) «column_count» (now (columns .entry)) width height emitted ⌝ }
+{
+    State {
+        filter: Filter {
+            rows: Cascade {
+                count: row_count,
+                widths: *rows,
+            },
+            columns: Cascade {
+                count: column_count,
+                widths: *columns,
+            },
+        },
+        width,
+        height,
+        emitted,
+    }
+}
+
+fn store(
+    state: State,
+    row_count: &mut u8,
+    rows: &mut [u8; 48],
+    column_count: &mut u8,
+    columns: &mut [u8; 48],
+    width: &mut usize,
+    height: &mut usize,
+    emitted: &mut usize,
+)
+    ensures { λ r. ⌜ givenState (now («row_count» .exit)) (now (rows .exit)) (now («column_count» .exit)) (now (columns .exit)) (now (width .exit)) (now (height .exit)) (now (emitted .exit)) ≡ state ⌝ }
+{
+    let along = state.filter.rows;
+    let down = state.filter.columns;
+    let row_widths = along.widths;
+    let column_widths = down.widths;
+    *row_count = along.count;
+    *rows = row_widths;
+    *column_count = down.count;
+    *columns = column_widths;
+    *width = state.width;
+    *height = state.height;
+    *emitted = state.emitted;
+}
+
+// The start of the one pass, for the recipe and the sides of a state whose rows yielded play no part:
+// 1 to 5, 8. On a refusal the state becomes one of zeros.
+#[no_mangle]
+pub extern "C" fn bore_start(
+    row_count: &mut u8,
+    rows: &mut [u8; 48],
+    column_count: &mut u8,
+    columns: &mut [u8; 48],
+    width: &mut usize,
+    height: &mut usize,
+    emitted: &mut usize,
+    cells: &mut [u64],
+) -> u8
+    ensures { λ r. let s = givenState (now («row_count» .entry)) (now (rows .entry)) (now («column_count» .entry)) (now (columns .entry)) (now (width .entry)) (now (height .entry)) (now (emitted .entry)) in
+        let t = givenState (now («row_count» .exit)) (now (rows .exit)) (now («column_count» .exit)) (now (columns .exit)) (now (width .exit)) (now (height .exit)) (now (emitted .exit)) in
+        ⌜ began r t (now (cells .exit)) ≡ start (s .filter) (s .width) (s .height) (now (cells .entry)) ⌝ }
+{
+    let given = state_of(
+        *row_count,
+        rows,
+        *column_count,
+        columns,
+        *width,
+        *height,
+        *emitted,
+    );
+    let answer = stream::start(given.filter, given.width, given.height, cells);
+    store(
+        answer.state,
+        row_count,
+        rows,
+        column_count,
+        columns,
+        width,
+        height,
+        emitted,
+    );
+    answer.refusal
+}
+
+// A row call of the one pass: 9, 10, 6, 7, 8. The state becomes the next one, or stays on a refusal, and
+// the count of additions and subtractions is 0 then.
+#[no_mangle]
+pub extern "C" fn bore_push(
+    row_count: &mut u8,
+    rows: &mut [u8; 48],
+    column_count: &mut u8,
+    columns: &mut [u8; 48],
+    width: &mut usize,
+    height: &mut usize,
+    emitted: &mut usize,
+    pixels: &[u8],
+    out: &mut [u64],
+    cells: &mut [u64],
+    count: &mut u64,
+) -> u8
+    ensures { λ r. let s = givenState (now («row_count» .entry)) (now (rows .entry)) (now («column_count» .entry)) (now (columns .entry)) (now (width .entry)) (now (height .entry)) (now (emitted .entry)) in
+        let t = givenState (now («row_count» .exit)) (now (rows .exit)) (now («column_count» .exit)) (now (columns .exit)) (now (width .exit)) (now (height .exit)) (now (emitted .exit)) in
+        ⌜ called r t (now (count .exit)) (now (out .exit)) (now (cells .exit)) ≡ push s (now (pixels .entry)) (now (out .entry)) (now (cells .entry)) ⌝ }
+{
+    let given = state_of(
+        *row_count,
+        rows,
+        *column_count,
+        columns,
+        *width,
+        *height,
+        *emitted,
+    );
+    let answer = stream::push(given, pixels, out, cells);
+    store(
+        answer.state,
+        row_count,
+        rows,
+        column_count,
+        columns,
+        width,
+        height,
+        emitted,
+    );
+    *count = answer.count;
+    answer.refusal
+}
+
+// A drain of the one pass: 9, 10, 7, 8. The state and the count are as with a row call.
+#[no_mangle]
+pub extern "C" fn bore_drain(
+    row_count: &mut u8,
+    rows: &mut [u8; 48],
+    column_count: &mut u8,
+    columns: &mut [u8; 48],
+    width: &mut usize,
+    height: &mut usize,
+    emitted: &mut usize,
+    out: &mut [u64],
+    cells: &mut [u64],
+    count: &mut u64,
+) -> u8
+    ensures { λ r. let s = givenState (now («row_count» .entry)) (now (rows .entry)) (now («column_count» .entry)) (now (columns .entry)) (now (width .entry)) (now (height .entry)) (now (emitted .entry)) in
+        let t = givenState (now («row_count» .exit)) (now (rows .exit)) (now («column_count» .exit)) (now (columns .exit)) (now (width .exit)) (now (height .exit)) (now (emitted .exit)) in
+        ⌜ called r t (now (count .exit)) (now (out .exit)) (now (cells .exit)) ≡ drain s (now (out .entry)) (now (cells .entry)) ⌝ }
+{
+    let given = state_of(
+        *row_count,
+        rows,
+        *column_count,
+        columns,
+        *width,
+        *height,
+        *emitted,
+    );
+    let answer = stream::drain(given, out, cells);
+    store(
+        answer.state,
+        row_count,
+        rows,
+        column_count,
+        columns,
+        width,
+        height,
+        emitted,
+    );
+    *count = answer.count;
+    answer.refusal
 }

@@ -3,7 +3,9 @@
 //!
 //! Every call returns document 01's refusal number, 0 where it is accepted,
 //! and writes its values to what the caller lends. A refused call writes
-//! nothing. To add a call, declare it in `raw` and give it a function here.
+//! nothing, but for the state of a refused start and the count of a refused
+//! push or drain, which become zeros. To add a call, declare it in `raw` and
+//! give it a function here.
 
 #![deny(unsafe_code)]
 
@@ -11,14 +13,14 @@ mod raw;
 
 /// The widths of one axis (document 01: a row list or a column list). Only the
 /// first `count` of the 48 bytes have a meaning; a count above 48 is refused.
-#[derive(Clone, Copy, Debug)]
+#[derive(Clone, Copy, Debug, PartialEq, Eq)]
 pub struct Cascade {
     pub count: u8,
     pub widths: [u8; 48],
 }
 
 /// The widths of both axes (document 01: a recipe).
-#[derive(Clone, Copy, Debug)]
+#[derive(Clone, Copy, Debug, PartialEq, Eq)]
 pub struct Filter {
     pub rows: Cascade,
     pub columns: Cascade,
@@ -33,6 +35,16 @@ pub struct Moments {
     pub column_order: usize,
     pub row_variance: f64,
     pub column_variance: f64,
+}
+
+/// The state of the stream (document 01: the one pass) between two calls: the
+/// filter, the sides of the picture and the rows yielded.
+#[derive(Clone, Copy, Debug, PartialEq, Eq)]
+pub struct State {
+    pub filter: Filter,
+    pub width: usize,
+    pub height: usize,
+    pub emitted: usize,
 }
 
 /// Whether a filter is accepted; refusals 1 to 4.
@@ -97,4 +109,67 @@ pub fn moments(filter: &Filter, moments: &mut Moments) -> u8 {
         &mut moments.row_variance,
         &mut moments.column_variance,
     )
+}
+
+/// Every exact sum as it is defined (document 01: direct), with the
+/// coefficients in two slices of exactly each order + 1 and the sums in an
+/// output of exactly the grown size; refusals 1 to 7.
+pub fn direct(
+    filter: &Filter,
+    width: usize,
+    height: usize,
+    pixels: &[u8],
+    row_kernel: &mut [u64],
+    column_kernel: &mut [u64],
+    out: &mut [u64],
+) -> u8 {
+    raw::direct(
+        filter,
+        width,
+        height,
+        pixels,
+        row_kernel,
+        column_kernel,
+        out,
+    )
+}
+
+/// The exact sums by one running sum after another over the whole grown
+/// picture (document 01: pass by pass), in an output of exactly the grown size
+/// and with at least as many work cells; refusals 1 to 8.
+pub fn passes(
+    filter: &Filter,
+    width: usize,
+    height: usize,
+    pixels: &[u8],
+    out: &mut [u64],
+    cells: &mut [u64],
+) -> u8 {
+    raw::passes(filter, width, height, pixels, out, cells)
+}
+
+/// Starts the stream: reads the filter and the sides of `state`, sets the
+/// needed cells to zero and leaves the started state, or after a refusal a
+/// state of zeros; refusals 1 to 5, then 8.
+pub fn start(state: &mut State, cells: &mut [u64]) -> u8 {
+    raw::start(state, cells)
+}
+
+/// Gives the stream the next picture row and takes one grown row from it.
+/// `count` becomes the count of additions and subtractions; refusals 9, 10,
+/// then 6, 7, 8.
+pub fn push(
+    state: &mut State,
+    pixels: &[u8],
+    out: &mut [u64],
+    cells: &mut [u64],
+    count: &mut u64,
+) -> u8 {
+    raw::push(state, pixels, out, cells, count)
+}
+
+/// Takes one grown row from the stream when all picture rows are in. `count`
+/// becomes the count of additions and subtractions; refusals 9, 10, then 7, 8.
+pub fn drain(state: &mut State, out: &mut [u64], cells: &mut [u64], count: &mut u64) -> u8 {
+    raw::drain(state, out, cells, count)
 }

@@ -8,6 +8,8 @@
 
 #![allow(unsafe_code)]
 
+use crate::{Filter, State};
+
 unsafe extern "C" {
     pub safe fn bore_check(
         row_count: u8,
@@ -49,10 +51,213 @@ unsafe extern "C" {
         row_variance: &mut f64,
         column_variance: &mut f64,
     ) -> u8;
+
+    fn bore_direct(
+        row_count: u8,
+        rows: &[u8; 48],
+        column_count: u8,
+        columns: &[u8; 48],
+        width: usize,
+        height: usize,
+        pixels: *const u8,
+        pixels_len: usize,
+        row_kernel: *mut u64,
+        row_kernel_len: usize,
+        column_kernel: *mut u64,
+        column_kernel_len: usize,
+        out: *mut u64,
+        out_len: usize,
+    ) -> u8;
+
+    fn bore_passes(
+        row_count: u8,
+        rows: &[u8; 48],
+        column_count: u8,
+        columns: &[u8; 48],
+        width: usize,
+        height: usize,
+        pixels: *const u8,
+        pixels_len: usize,
+        out: *mut u64,
+        out_len: usize,
+        cells: *mut u64,
+        cells_len: usize,
+    ) -> u8;
+
+    fn bore_start(
+        row_count: &mut u8,
+        rows: &mut [u8; 48],
+        column_count: &mut u8,
+        columns: &mut [u8; 48],
+        width: &mut usize,
+        height: &mut usize,
+        emitted: &mut usize,
+        cells: *mut u64,
+        cells_len: usize,
+    ) -> u8;
+
+    fn bore_push(
+        row_count: &mut u8,
+        rows: &mut [u8; 48],
+        column_count: &mut u8,
+        columns: &mut [u8; 48],
+        width: &mut usize,
+        height: &mut usize,
+        emitted: &mut usize,
+        pixels: *const u8,
+        pixels_len: usize,
+        out: *mut u64,
+        out_len: usize,
+        cells: *mut u64,
+        cells_len: usize,
+        count: &mut u64,
+    ) -> u8;
+
+    fn bore_drain(
+        row_count: &mut u8,
+        rows: &mut [u8; 48],
+        column_count: &mut u8,
+        columns: &mut [u8; 48],
+        width: &mut usize,
+        height: &mut usize,
+        emitted: &mut usize,
+        out: *mut u64,
+        out_len: usize,
+        cells: *mut u64,
+        cells_len: usize,
+        count: &mut u64,
+    ) -> u8;
 }
 
 pub fn kernel(count: u8, widths: &[u8; 48], out: &mut [u64]) -> u8 {
     // SAFETY: the pointer and the length are those of one slice, which is lent
     // to this call alone.
     unsafe { bore_kernel(count, widths, out.as_mut_ptr(), out.len()) }
+}
+
+pub fn direct(
+    filter: &Filter,
+    width: usize,
+    height: usize,
+    pixels: &[u8],
+    row_kernel: &mut [u64],
+    column_kernel: &mut [u64],
+    out: &mut [u64],
+) -> u8 {
+    // SAFETY: each pointer and the length after it are those of one slice; the
+    // three that are written are lent to this call alone.
+    unsafe {
+        bore_direct(
+            filter.rows.count,
+            &filter.rows.widths,
+            filter.columns.count,
+            &filter.columns.widths,
+            width,
+            height,
+            pixels.as_ptr(),
+            pixels.len(),
+            row_kernel.as_mut_ptr(),
+            row_kernel.len(),
+            column_kernel.as_mut_ptr(),
+            column_kernel.len(),
+            out.as_mut_ptr(),
+            out.len(),
+        )
+    }
+}
+
+pub fn passes(
+    filter: &Filter,
+    width: usize,
+    height: usize,
+    pixels: &[u8],
+    out: &mut [u64],
+    cells: &mut [u64],
+) -> u8 {
+    // SAFETY: each pointer and the length after it are those of one slice; the
+    // two that are written are lent to this call alone.
+    unsafe {
+        bore_passes(
+            filter.rows.count,
+            &filter.rows.widths,
+            filter.columns.count,
+            &filter.columns.widths,
+            width,
+            height,
+            pixels.as_ptr(),
+            pixels.len(),
+            out.as_mut_ptr(),
+            out.len(),
+            cells.as_mut_ptr(),
+            cells.len(),
+        )
+    }
+}
+
+pub fn start(state: &mut State, cells: &mut [u64]) -> u8 {
+    // SAFETY: the pointer and the length are those of one slice, which is lent
+    // to this call alone.
+    unsafe {
+        bore_start(
+            &mut state.filter.rows.count,
+            &mut state.filter.rows.widths,
+            &mut state.filter.columns.count,
+            &mut state.filter.columns.widths,
+            &mut state.width,
+            &mut state.height,
+            &mut state.emitted,
+            cells.as_mut_ptr(),
+            cells.len(),
+        )
+    }
+}
+
+pub fn push(
+    state: &mut State,
+    pixels: &[u8],
+    out: &mut [u64],
+    cells: &mut [u64],
+    count: &mut u64,
+) -> u8 {
+    // SAFETY: each pointer and the length after it are those of one slice; the
+    // two that are written are lent to this call alone.
+    unsafe {
+        bore_push(
+            &mut state.filter.rows.count,
+            &mut state.filter.rows.widths,
+            &mut state.filter.columns.count,
+            &mut state.filter.columns.widths,
+            &mut state.width,
+            &mut state.height,
+            &mut state.emitted,
+            pixels.as_ptr(),
+            pixels.len(),
+            out.as_mut_ptr(),
+            out.len(),
+            cells.as_mut_ptr(),
+            cells.len(),
+            count,
+        )
+    }
+}
+
+pub fn drain(state: &mut State, out: &mut [u64], cells: &mut [u64], count: &mut u64) -> u8 {
+    // SAFETY: each pointer and the length after it are those of one slice; both
+    // are lent to this call alone.
+    unsafe {
+        bore_drain(
+            &mut state.filter.rows.count,
+            &mut state.filter.rows.widths,
+            &mut state.filter.columns.count,
+            &mut state.filter.columns.widths,
+            &mut state.width,
+            &mut state.height,
+            &mut state.emitted,
+            out.as_mut_ptr(),
+            out.len(),
+            cells.as_mut_ptr(),
+            cells.len(),
+            count,
+        )
+    }
 }

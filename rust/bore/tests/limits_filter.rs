@@ -4,8 +4,8 @@
 mod common;
 
 use bore::{Cascade, Filter};
-use common::{agree, filter, list_of, list_of_reach, refilled, shuffled, Case};
-use common::{ABOVE, BELOW, EQUAL, WRAPPED};
+use common::{agree, filter, from_bits, list_of, list_of_reach, refilled, shuffled};
+use common::{with_refusals, Case, ABOVE, BELOW, EQUAL, WRAPPED};
 use reference::random::Random;
 
 /// Widths and heights at the limits and far beyond them.
@@ -150,34 +150,6 @@ fn weight_at_the_limit() {
             }
         }
     }
-}
-
-/// A filter to which just the wished ones of 1 to 4 apply, each caused by one
-/// axis. All widths that are not part of a cause are 1.
-fn with_refusals(random: &mut Random, wished: [bool; 4], on_rows: [bool; 4]) -> Filter {
-    let mut lists = [vec![], vec![]];
-    let mut counts = [48, 48];
-    let causes: [&[u8]; 4] = [&[], &[0], &[255, 3], &[2; 45]];
-    for i in 0..4 {
-        if wished[i] {
-            lists[usize::from(on_rows[i])].extend_from_slice(causes[i]);
-        }
-    }
-    if wished[0] {
-        counts[usize::from(on_rows[0])] = random.one_of(&[49, 255]);
-    }
-    for list in &mut lists {
-        list.resize(48, 1);
-        *list = shuffled(random, list);
-    }
-    let mut filter = filter(&lists[1], &lists[0]);
-    filter.rows.count = counts[1];
-    filter.columns.count = counts[0];
-    filter
-}
-
-fn from_bits<const N: usize>(bits: usize) -> [bool; N] {
-    std::array::from_fn(|i| bits >> i & 1 == 1)
 }
 
 #[test]

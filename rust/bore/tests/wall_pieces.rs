@@ -1,9 +1,11 @@
-//! The fixed cases of document 01 ("Wall pieces to try") that concern the calls
-//! on a filter, and the triangle of source document 001.
+//! The fixed cases of document 01 ("Wall pieces to try", "Mistakes that look
+//! harmless") that concern the calls on a filter and the exact sums, these by
+//! all three methods, and the triangle of source document 001.
 
 mod common;
 
 use bore::{Filter, Moments};
+use common::three::three_methods;
 use common::{cascade, filter};
 
 /// The coefficients of an accepted list.
@@ -23,6 +25,12 @@ fn full_size(filter: &Filter, width: usize, height: usize) -> (u8, usize, usize)
     let (mut full_width, mut full_height) = (0, 0);
     let number = bore::full_size(filter, width, height, &mut full_width, &mut full_height);
     (number, full_width, full_height)
+}
+
+/// The exact sums of an accepted picture, by all three methods.
+fn sums(rows: &[u8], columns: &[u8], width: usize, height: usize, pixels: &[u8]) -> Vec<u64> {
+    let found = three_methods(&filter(rows, columns), width, height, pixels);
+    found.expect("the recipe and the picture are accepted")
 }
 
 #[test]
@@ -115,4 +123,124 @@ fn twos_follow_the_rule_of_the_triangle() {
     let mut out = [7; 46];
     assert_eq!(bore::kernel(&cascade(&[2; 45]), &mut out), 4);
     assert_eq!(out, [7; 46]);
+}
+
+#[test]
+fn one_pixel_spreads() {
+    assert_eq!(
+        sums(&[2, 2], &[2, 2], 1, 1, &[1]),
+        [1, 2, 1, 2, 4, 2, 1, 2, 1]
+    );
+    assert_eq!(sums(&[2, 2, 2, 2], &[], 1, 1, &[1]), [1, 4, 6, 4, 1]);
+    assert_eq!(sums(&[], &[2, 2, 2, 2], 1, 1, &[1]), [1, 4, 6, 4, 1]);
+    assert_eq!(sums(&[3, 2], &[], 1, 1, &[1]), [1, 2, 2, 1]);
+    assert_eq!(sums(&[2, 3], &[], 1, 1, &[1]), [1, 2, 2, 1]);
+    assert_eq!(sums(&[], &[3, 2], 1, 1, &[1]), [1, 2, 2, 1]);
+    assert_eq!(sums(&[4], &[], 1, 1, &[1]), [1, 1, 1, 1]);
+    assert_eq!(sums(&[2, 2], &[], 1, 1, &[1]), [1, 2, 1]);
+    assert_eq!(sums(&[1], &[], 1, 1, &[1]), [1]);
+    assert_eq!(sums(&[], &[], 1, 1, &[1]), [1]);
+    assert_eq!(sums(&[2, 2], &[], 1, 1, &[255]), [255, 510, 255]);
+    // The picture of the job that the paper prints.
+    assert_eq!(sums(&[2, 2], &[], 1, 1, &[4]), [4, 8, 4]);
+}
+
+/// Reach, weight and count are the same, the sums are not.
+#[test]
+fn sums_of_equal_reach_and_weight() {
+    for (list, all) in [
+        ([2, 6, 6], [1, 3, 5, 7, 9, 11, 11, 9, 7, 5, 3, 1]),
+        ([3, 3, 8], [1, 3, 6, 8, 9, 9, 9, 9, 8, 6, 3, 1]),
+    ] {
+        assert_eq!(sums(&list, &[], 1, 1, &[1]), all);
+        assert_eq!(sums(&[], &list, 1, 1, &[1]), all);
+    }
+}
+
+#[test]
+fn three_by_three_of_a_hundred() {
+    let found = sums(&[2, 2], &[2, 2], 3, 3, &[100; 9]);
+    // The places that the same-size blur takes: corner, edge, centre.
+    assert_eq!(found[5 + 1], 900);
+    assert_eq!(found[5 + 2], 1200);
+    assert_eq!(found[2 * 5 + 2], 1600);
+    assert_eq!(found[3 * 5 + 3], 900);
+    // Outside them the black about the picture weighs more.
+    assert_eq!(found[..5], [100, 300, 400, 300, 100]);
+}
+
+#[test]
+fn one_two_on_two_pixels() {
+    assert_eq!(sums(&[2], &[], 2, 1, &[1, 0]), [1, 1, 0]);
+    assert_eq!(sums(&[], &[2], 1, 2, &[1, 0]), [1, 1, 0]);
+}
+
+/// Sums are not rounded after each box: 1 2 1 and not 1 1 1 times a weight.
+#[test]
+fn no_box_is_rounded() {
+    assert_eq!(sums(&[2, 2], &[], 1, 1, &[1]), [1, 2, 1]);
+    assert_eq!(sums(&[3, 3], &[], 2, 1, &[1, 1]), [1, 3, 5, 5, 3, 1]);
+}
+
+/// The black places of a row are through before the next row starts: 1 1 / 1 1
+/// and not 1 / 2.
+#[test]
+fn rows_do_not_run_into_one_another() {
+    assert_eq!(sums(&[2], &[], 1, 2, &[1, 1]), [1, 1, 1, 1]);
+    assert_eq!(sums(&[3], &[], 1, 2, &[1, 2]), [1, 1, 1, 2, 2, 2]);
+    let both = sums(&[2, 3], &[], 1, 2, &[1, 5]);
+    assert_eq!(both, [1, 2, 2, 1, 5, 10, 10, 5]);
+    assert_eq!(sums(&[2], &[2], 1, 2, &[1, 1]), [1, 1, 2, 2, 1, 1]);
+}
+
+#[test]
+fn sums_at_the_limits() {
+    let refused = |rows: &[u8], columns: &[u8]| three_methods(&filter(rows, columns), 1, 1, &[1]);
+    assert_eq!(sums(&[255, 2], &[], 1, 1, &[3])[1..255], [6; 254]);
+    assert_eq!(sums(&[], &[255, 2], 1, 1, &[3])[1..255], [6; 254]);
+    assert_eq!(refused(&[255, 3], &[]), Err(3));
+    assert_eq!(refused(&[], &[255, 3]), Err(3));
+    assert_eq!(refused(&[2; 23], &[2; 22]), Err(4));
+    assert_eq!(refused(&[2; 22], &[2; 23]), Err(4));
+    assert_eq!(refused(&[1, 0], &[]), Err(2));
+    let mut longer = filter(&[1; 48], &[]);
+    longer.rows.count = 49;
+    assert_eq!(three_methods(&longer, 1, 1, &[1]), Err(1));
+}
+
+/// The largest sum is 255 times 2^44: it stands in the middle of a white
+/// picture that all coefficients cover.
+#[test]
+fn the_largest_sum() {
+    let found = sums(&[2; 22], &[2; 22], 23, 23, &[255; 23 * 23]);
+    assert_eq!(found[22 * 45 + 22], 255 << 44);
+    assert_eq!(found.iter().max(), Some(&(255 << 44)));
+    let row = sums(&[2; 44], &[], 45, 1, &[255; 45]);
+    assert_eq!(row[44], 255 << 44);
+}
+
+#[test]
+fn the_largest_sides() {
+    let pixels: Vec<u8> = (0..1 << 20).map(|k: u32| (k % 251) as u8).collect();
+    let same: Vec<u64> = pixels.iter().map(|&pixel| pixel.into()).collect();
+    assert!(sums(&[], &[], 1024, 1024, &pixels) == same);
+    assert!(sums(&[1; 48], &[1; 48], 1024, 1024, &pixels) == same);
+    let empty = filter(&[], &[]);
+    assert_eq!(three_methods(&empty, 1025, 1, &pixels[..1025]), Err(5));
+    assert_eq!(three_methods(&empty, 1, 1025, &pixels[..1025]), Err(5));
+}
+
+#[test]
+fn one_pixel_shows_the_printed_triangle() {
+    for (n, row) in reference::TRIANGLE.iter().enumerate() {
+        let twos = vec![2; n];
+        assert_eq!(sums(&twos, &[], 1, 1, &[1]), *row);
+        assert_eq!(sums(&[], &twos, 1, 1, &[1]), *row);
+        let square = sums(&twos, &twos, 1, 1, &[1]);
+        let product = |j: usize, i: usize| row[j] * row[i];
+        let expected: Vec<u64> = (0..square.len())
+            .map(|k| product(k / (n + 1), k % (n + 1)))
+            .collect();
+        assert_eq!(square, expected);
+    }
 }

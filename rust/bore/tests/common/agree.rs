@@ -1,4 +1,4 @@
-//! One function for each call of the library: it makes the call for a case's
+//! One function for each call on a filter: it makes the call for a case's
 //! filter and for the twin, compares the number and all that was lent with the
 //! reference, and returns the number.
 //!
@@ -11,7 +11,7 @@ use bore::{Cascade, Moments};
 use reference::random::Random;
 
 /// The library's form of a result: its number, 0 where it is accepted.
-fn number<T>(result: &Result<T, u8>) -> u8 {
+pub fn number<T>(result: &Result<T, u8>) -> u8 {
     result.as_ref().err().copied().unwrap_or(0)
 }
 

@@ -1,14 +1,23 @@
 //! What the comparison tests share: the change from the library's form of a
-//! filter to the reference's, many random filters near all limits, and in
-//! `agree` the comparison of each call with the reference.
+//! filter to the reference's, many random filters near all limits, in
+//! `pictures` random pictures, and the comparison of each call with the
+//! reference: in `agree` the calls on a filter, in `agree_methods` direct and
+//! pass by pass, in `agree_stream` the one pass. `three` has all three methods
+//! for tests of the sums alone.
 //!
 //! The environment sets the random cases: BORE_CASES is their number for each
-//! test, BORE_SEED the seed of the first; each case has the next seed.
+//! test, BORE_SEED the seed of the first; each case has the next seed. A test
+//! whose cases take longer makes a share of them, and at least one.
 
 // Each test file uses a part of this one.
 #![allow(dead_code)]
 
 pub mod agree;
+pub mod agree_methods;
+pub mod agree_stream;
+pub mod lent;
+pub mod pictures;
+pub mod three;
 
 use bore::{Cascade, Filter};
 use reference::random::Random;
@@ -68,12 +77,18 @@ pub struct Case {
 }
 
 impl Case {
-    /// The random case of a seed, and its generator for further choices.
-    pub fn random(seed: u64) -> (Case, Random) {
+    /// The case of a seed with a filter drawn by `draw`, and its generator for
+    /// further choices.
+    pub fn drawn(seed: u64, draw: impl Fn(&mut Random) -> Filter) -> (Case, Random) {
         let mut random = Random::new(seed);
-        let filter = any_filter(&mut random);
+        let filter = draw(&mut random);
         let twin = refilled(&mut random, &filter);
         (Case { seed, filter, twin }, random)
+    }
+
+    /// The random case of a seed for a call on a filter.
+    pub fn random(seed: u64) -> (Case, Random) {
+        Case::drawn(seed, any_filter)
     }
 
     /// The case of a given filter.
@@ -102,14 +117,21 @@ impl Case {
     }
 }
 
-/// Runs a comparison on every random case.
-pub fn each_case(mut compare: impl FnMut(&Case, &mut Random)) {
+/// Runs a comparison on one seed for every `share` of the random cases.
+pub fn each_seed(share: u64, compare: impl FnMut(u64)) {
     let first = set_number("BORE_SEED").unwrap_or(0);
     let cases = set_number("BORE_CASES").unwrap_or(CASES);
-    for seed in first..first + cases {
+    (first..)
+        .take((cases / share).max(1) as usize)
+        .for_each(compare);
+}
+
+/// Runs a comparison on every random case.
+pub fn each_case(mut compare: impl FnMut(&Case, &mut Random)) {
+    each_seed(1, |seed| {
         let (case, mut random) = Case::random(seed);
         compare(&case, &mut random);
-    }
+    });
 }
 
 /// Fills what stands past the count: all bytes random, or all 0, or all 255.
@@ -132,7 +154,7 @@ pub fn refilled(random: &mut Random, filter: &Filter) -> Filter {
 }
 
 /// A filter that is valid, at a limit, or beyond one or several.
-fn any_filter(random: &mut Random) -> Filter {
+pub fn any_filter(random: &mut Random) -> Filter {
     let recipe = match random.between(0, 9) {
         0..=2 => random.valid_recipe(255),
         3..=5 => random.damaged_recipe(),
@@ -150,7 +172,7 @@ fn any_filter(random: &mut Random) -> Filter {
 }
 
 /// Changes the count or a byte on one axis.
-fn damage(random: &mut Random, filter: &mut Filter) {
+pub fn damage(random: &mut Random, filter: &mut Filter) {
     let cascade = if random.coin() {
         &mut filter.rows
     } else {
@@ -270,4 +292,33 @@ pub fn list_of_reach(random: &mut Random, wanted: usize, most: usize) -> Vec<u8>
         rest -= part;
     }
     list
+}
+
+/// A filter to which just the wished ones of 1 to 4 apply, each caused by one
+/// axis. All widths that are not part of a cause are 1.
+pub fn with_refusals(random: &mut Random, wished: [bool; 4], on_rows: [bool; 4]) -> Filter {
+    let mut lists = [vec![], vec![]];
+    let mut counts = [48, 48];
+    let causes: [&[u8]; 4] = [&[], &[0], &[255, 3], &[2; 45]];
+    for i in 0..4 {
+        if wished[i] {
+            lists[usize::from(on_rows[i])].extend_from_slice(causes[i]);
+        }
+    }
+    if wished[0] {
+        counts[usize::from(on_rows[0])] = random.one_of(&[49, 255]);
+    }
+    for list in &mut lists {
+        list.resize(48, 1);
+        *list = shuffled(random, list);
+    }
+    let mut filter = filter(&lists[1], &lists[0]);
+    filter.rows.count = counts[1];
+    filter.columns.count = counts[0];
+    filter
+}
+
+/// The lowest bits of a number.
+pub fn from_bits<const N: usize>(bits: usize) -> [bool; N] {
+    std::array::from_fn(|i| bits >> i & 1 == 1)
 }

@@ -1,0 +1,124 @@
+//! Times of the library beside the same algorithms in safe Rust, as tables in
+//! Markdown: `cargo run --offline --release -p bench`.
+//!
+//! Before its time is taken, every pair of results is compared; a difference
+//! ends the program.
+
+#![forbid(unsafe_code)]
+
+mod convolution;
+mod direct;
+mod passes;
+mod stream;
+mod timing;
+mod work;
+
+use convolution::{Conventional, TwoSteps};
+use timing::alternate;
+use work::Work;
+
+/// The side of the picture.
+const SIDE: usize = 1024;
+
+/// The recipes of the first table: name, row widths, column widths.
+const RECIPES: [(&str, &[u8], &[u8]); 3] = [
+    ("5 by 5 binomial", &[2, 2, 2, 2], &[2, 2, 2, 2]),
+    ("three boxes of 15 each way", &[15, 15, 15], &[15, 15, 15]),
+    (
+        "ladder 2,3,4,6,8,12,16 along rows",
+        &[2, 3, 4, 6, 8, 12, 16],
+        &[],
+    ),
+];
+
+/// A method's name, the library's call of it, and the Rust version.
+type Method = (&'static str, fn(&mut Work), fn(&mut Work));
+
+const DIRECT: Method = ("direct", Work::direct, direct::run);
+const PASSES: Method = ("pass by pass", Work::passes, passes::run);
+const STREAM: Method = ("one pass", Work::stream, stream::run);
+
+/// The library beside the same algorithm in Rust.
+fn same_algorithm() {
+    println!("| Recipe | Method | Library, ms | Rust, ms | Library / Rust |");
+    println!("|---|---|---|---|---|");
+    for (name, rows, columns) in RECIPES {
+        for (method, by_library, by_rust) in [STREAM, PASSES, DIRECT] {
+            let mut library = Work::new(rows, columns, SIDE);
+            let mut rust = library.clone();
+            by_library(&mut library);
+            by_rust(&mut rust);
+            assert!(library.results() == rust.results(), "{name}, {method}");
+            let [a, b] = alternate([&mut || by_library(&mut library), &mut || by_rust(&mut rust)]);
+            println!("| {name} | {method} | {a:.2} | {b:.2} | {:.2} |", a / b);
+        }
+    }
+}
+
+/// The one pass of the library beside a convolution with 25 multiplications
+/// and its decomposition into two steps.
+fn conventional() {
+    let binomial = RECIPES[0];
+    let mut library = Work::new(binomial.1, binomial.2, SIDE);
+    let pixels = library.pixels.clone();
+    library.stream();
+    let mut whole = Conventional::<u64>::new(SIDE);
+    let mut narrow = Conventional::<u16>::new(SIDE);
+    let mut steps = TwoSteps::<u64>::new(SIDE);
+    let mut narrow_steps = TwoSteps::<u16>::new(SIDE);
+    whole.run_by_places(&pixels);
+    narrow.run_by_rows(&pixels);
+    steps.run(&pixels);
+    narrow_steps.run(&pixels);
+    for out in [whole.out(), narrow.out(), steps.out(), narrow_steps.out()] {
+        assert!(library.out == out, "the convolutions agree");
+    }
+    let [one_pass, whole, steps, narrow, narrow_steps] = alternate([
+        &mut || library.stream(),
+        &mut || whole.run_by_places(&pixels),
+        &mut || steps.run(&pixels),
+        &mut || narrow.run_by_rows(&pixels),
+        &mut || narrow_steps.run(&pixels),
+    ]);
+    println!("| 5 by 5 binomial | ms | against the one pass | Table 3 of 001 |");
+    println!("|---|---|---|---|");
+    println!("| one pass, library | {one_pass:.2} | 1.0 | 1.0 |");
+    for (name, time, printed) in [
+        ("25 multiplications, 64-bit numbers", whole, "8.5"),
+        ("two steps of 5, 64-bit numbers", steps, "4.2"),
+        ("25 multiplications, 16-bit numbers", narrow, ""),
+        ("two steps of 5, 16-bit numbers", narrow_steps, ""),
+    ] {
+        println!(
+            "| {name} | {time:.2} | {:.1} | {printed} |",
+            time / one_pass
+        );
+    }
+}
+
+/// One box each way, narrow and wide, in the library. The work is the same but
+/// for the places by which the picture grows.
+fn widths() {
+    println!("| One box each way | Width 3, ms | Width 64, ms | 64 / 3 |");
+    println!("|---|---|---|---|");
+    for (method, by_library, _) in [STREAM, PASSES] {
+        let mut narrow = Work::new(&[3], &[3], SIDE);
+        let mut wide = Work::new(&[64], &[64], SIDE);
+        let [a, b] = alternate([&mut || by_library(&mut narrow), &mut || {
+            by_library(&mut wide)
+        }]);
+        println!("| {method} | {a:.2} | {b:.2} | {:.2} |", b / a);
+    }
+}
+
+fn main() {
+    println!("Picture of 1,024 by 1,024. Times in milliseconds, the least of several runs");
+    println!("in alternation. Both sides are built for release, and the buffers are warm:");
+    println!("each side has run with its own buffers before its time is taken.");
+    println!();
+    same_algorithm();
+    println!();
+    conventional();
+    println!();
+    widths();
+}

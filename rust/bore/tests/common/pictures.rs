@@ -1,0 +1,144 @@
+//! Random filters, sides, pictures and lengths for the calls on pictures.
+//!
+//! The reference forms every sum as it is defined, so its work grows fast with
+//! the reaches: the sides are made smaller where they would make it too long.
+
+use super::{any_filter, filter, recipe_of, refilled, Case};
+use bore::Filter;
+use reference::random::Random;
+use reference::Recipe;
+
+/// A picture for the library and the reference. Its slice of pixels may have a
+/// wrong length.
+#[derive(Clone, Debug)]
+pub struct Picture {
+    pub width: usize,
+    pub height: usize,
+    pub pixels: Vec<u8>,
+}
+
+/// The products that the reference may form for one picture, if its sides can
+/// be chosen so.
+const MOST_PRODUCTS: usize = 100_000;
+
+/// The products that the reference forms for all sums of a picture.
+fn products(recipe: &Recipe, width: usize, height: usize) -> usize {
+    let row_reach = reference::reach(&recipe.rows);
+    let column_reach = reference::reach(&recipe.columns);
+    (width + row_reach) * (row_reach + 1) * height * (column_reach + 1)
+}
+
+/// A filter that is mostly accepted and has small reaches; some at the limits
+/// of weight, reach and length, and some refused.
+fn drawn_filter(random: &mut Random) -> Filter {
+    let recipe = match random.between(0, 31) {
+        0..=12 => random.valid_recipe(12),
+        13..=17 => random.valid_recipe(40),
+        18..=19 => random.valid_recipe(255),
+        20..=21 => random.recipe_of_full_weight(),
+        22 => random.recipe_just_below(),
+        23..=24 => random.recipe_of_reach(255),
+        25..=26 => random.recipe_of_length(48),
+        _ => return any_filter(random),
+    };
+    refilled(random, &filter(&recipe.rows, &recipe.columns))
+}
+
+/// Such a filter; of those with long reaches on both axes most lose an axis.
+pub fn picture_filter(random: &mut Random) -> Filter {
+    let mut filter = drawn_filter(random);
+    let recipe = recipe_of(&filter);
+    let long = reference::check(&recipe).is_ok() && products(&recipe, 1, 1) > MOST_PRODUCTS;
+    if long && random.between(0, 15) > 0 {
+        if random.coin() {
+            filter.rows.count = 0;
+        } else {
+            filter.columns.count = 0;
+        }
+    }
+    filter
+}
+
+/// The random case of a seed for a call on a picture.
+pub fn picture_case(seed: u64) -> (Case, Random) {
+    Case::drawn(seed, picture_filter)
+}
+
+/// Accepted sides, mostly small.
+pub fn accepted_sides(random: &mut Random, recipe: &Recipe) -> (usize, usize) {
+    let most = match random.between(0, 15) {
+        0 => [1, 40],
+        1 => [40, 1],
+        2..=3 => [40, 40],
+        _ => [12, 12],
+    };
+    let mut sides = most.map(|most| random.between(1, most));
+    while products(recipe, sides[0], sides[1]) > MOST_PRODUCTS && sides != [1, 1] {
+        sides = sides.map(|side| side.div_ceil(2));
+    }
+    (sides[0], sides[1])
+}
+
+/// A side that is refused.
+pub fn refused_side(random: &mut Random) -> usize {
+    let any = random.between(1025, 5000);
+    random.one_of(&[
+        0,
+        1025,
+        any,
+        1 << 32,
+        (1 << 32) + 7,
+        1 << 63,
+        usize::MAX - 254,
+        usize::MAX,
+    ])
+}
+
+/// Sides of which mostly both are accepted.
+pub fn any_sides(random: &mut Random, recipe: &Recipe) -> (usize, usize) {
+    let (width, height) = accepted_sides(random, recipe);
+    match random.between(0, 23) {
+        0 => (refused_side(random), height),
+        1 => (width, refused_side(random)),
+        2 => (refused_side(random), refused_side(random)),
+        _ => (width, height),
+    }
+}
+
+/// A length of a slice that should have the length `right`.
+pub fn any_length(random: &mut Random, right: usize) -> usize {
+    let any = random.between(0, 300);
+    match random.between(0, 23) {
+        0 => right.saturating_sub(1),
+        1 => right + 1,
+        2 => random.one_of(&[0, 1, 2 * right, any]),
+        _ => right,
+    }
+}
+
+/// A number of work cells where `needed` are needed: just as many, more, or
+/// fewer.
+pub fn any_cells(random: &mut Random, needed: usize) -> usize {
+    match random.between(0, 15) {
+        0 => needed.saturating_sub(1),
+        1 => random.between(0, needed),
+        2..=6 => needed + random.between(1, 9),
+        7 => 2 * needed + 1,
+        _ => needed,
+    }
+}
+
+/// A picture with these sides for which a call is mostly not refused 6.
+pub fn any_picture(random: &mut Random, width: usize, height: usize) -> Picture {
+    // Sides that are refused may have any product modulo 2^64.
+    let right = match width.wrapping_mul(height) {
+        small @ 0..=1600 => small,
+        _ => random.between(0, 20),
+    };
+    let length = any_length(random, right);
+    Picture {
+        width,
+        height,
+        pixels: random.pixels(length),
+    }
+}
