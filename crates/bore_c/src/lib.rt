@@ -175,8 +175,9 @@ pub extern "C" fn bore_direct(
         ⌜ Formed g (picture width height (now (pixels .entry))) (now («row_kernel» .entry)) (now («column_kernel» .entry)) (now (out .entry))
         r (now («row_kernel» .exit)) (now («column_kernel» .exit)) (now (out .exit)) ⌝ }
 {
+    let recipe = filter_of(row_count, rows, column_count, columns);
     direct::direct(
-        filter_of(row_count, rows, column_count, columns),
+        recipe,
         width,
         height,
         pixels,
@@ -202,14 +203,8 @@ pub extern "C" fn bore_passes(
     ensures { λ r. let g = given «row_count» (now (rows .entry)) «column_count» (now (columns .entry)) in
         ⌜ Passed g (picture width height (now (pixels .entry))) (now (out .entry)) (now (cells .entry)) r (now (out .exit)) (now (cells .exit)) ⌝ }
 {
-    passes::passes(
-        filter_of(row_count, rows, column_count, columns),
-        width,
-        height,
-        pixels,
-        out,
-        cells,
-    )
+    let filter = filter_of(row_count, rows, column_count, columns);
+    passes::passes(filter, width, height, pixels, out, cells)
 }
 
 // A state of the one pass, from its fields and back to them.
@@ -292,9 +287,9 @@ pub extern "C" fn bore_start(
         *height,
         *emitted,
     );
-    let answer = stream::start(given.filter, given.width, given.height, cells);
+    let started = stream::start(given.filter, given.width, given.height, cells);
     store(
-        answer.state,
+        started.state,
         row_count,
         rows,
         column_count,
@@ -303,7 +298,7 @@ pub extern "C" fn bore_start(
         height,
         emitted,
     );
-    answer.refusal
+    started.refusal
 }
 
 // A row call of the one pass: 9, 10, 6, 7, 8. The state becomes the next one, or stays on a refusal, and
@@ -335,9 +330,9 @@ pub extern "C" fn bore_push(
         *height,
         *emitted,
     );
-    let answer = stream::push(given, pixels, out, cells);
+    let pushed = stream::push(given, pixels, out, cells);
     store(
-        answer.state,
+        pushed.state,
         row_count,
         rows,
         column_count,
@@ -346,8 +341,8 @@ pub extern "C" fn bore_push(
         height,
         emitted,
     );
-    *count = answer.count;
-    answer.refusal
+    *count = pushed.count;
+    pushed.refusal
 }
 
 // A drain of the one pass: 9, 10, 7, 8. The state and the count are as with a row call.
@@ -377,9 +372,9 @@ pub extern "C" fn bore_drain(
         *height,
         *emitted,
     );
-    let answer = stream::drain(given, out, cells);
+    let drained = stream::drain(given, out, cells);
     store(
-        answer.state,
+        drained.state,
         row_count,
         rows,
         column_count,
@@ -388,6 +383,6 @@ pub extern "C" fn bore_drain(
         height,
         emitted,
     );
-    *count = answer.count;
-    answer.refusal
+    *count = drained.count;
+    drained.refusal
 }

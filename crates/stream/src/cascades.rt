@@ -52,17 +52,17 @@ fn down(list: Cascade, emitted: usize, row: &mut [u64], cells: &mut [u64]) -> u6
         ⌜ (r ≡ w * cascadeCost (widths list)) × (now (row .exit) ≡ made .row) × (now (cells .exit) ≡ made .cells) ⌝ }
 {
     let count = list.count as usize;
-    let mut sum: u64 = 0;
-    let mut from: usize = 0;
-    let mut i: usize = 0;
-    while i < count {
-        let n = list.widths[i];
-        let to = from + row.len() * box_cells(n);
-        sum += column_box(n, emitted, row, &mut cells[from..to]);
-        from = to;
-        i += 1;
+    let mut total: u64 = 0;
+    let mut start: usize = 0;
+    let mut j: usize = 0;
+    while j < count {
+        let n = list.widths[j];
+        let end = start + row.len() * box_cells(n);
+        total += column_box(n, emitted, row, &mut cells[start..end]);
+        start = end;
+        j += 1;
     }
-    sum
+    total
 }
 
 // Both lists, at the row after `emitted` others.

@@ -20,13 +20,13 @@ use Rattle.stream.proofs.cascades.down.Statement.{statement}
 use Rattle.stream.proofs.cascades.down.Tie as tie
 
 abbrev Inv-loop : tie.InvT-loop
-Inv-loop emitted row₀ cells₀ list count sum₀ from₀ i₀ row cells sum from i =
+Inv-loop emitted row₀ cells₀ list count total₀ start₀ j₀ row cells total start j =
     (count ≡ list .count) × (list .count ≤ 48) × (length (list .widths) ≡ 48) × (0 < length row₀) × (length row₀ ≤ 1279)
     × (length row ≡ length row₀) × (length cells ≡ length cells₀)
-    × Left (λ n. length row₀ * boxCells n) boxCost (columnStage emitted) (widths list) row₀ cells₀ i row cells from sum
+    × Left (λ n. length row₀ * boxCells n) boxCost (columnStage emitted) (widths list) row₀ cells₀ j row cells start total
 
 abbrev μ-loop : tie.MeasureT-loop
-μ-loop emitted row₀ cells₀ list count sum₀ from₀ i₀ row cells sum from i = count - i
+μ-loop emitted row₀ cells₀ list count total₀ start₀ j₀ row cells total start j = count - j
 
 cast-count : tie.Need-cast-count Inv-loop μ-loop
 cast-count c = search needs
@@ -48,23 +48,23 @@ box-cells-requires c κs = search needs
 
 -- the width that comes next
 more : (c : tie.After-n Inv-loop μ-loop) → let now = c .before .before .loop in let list = c .before .before .before .before .before .args .t1 in
-    drop (now .i) (widths list) ≡ getD (list .widths) (now .i) 0 ∷ drop (suc (now .i)) (widths list)
+    drop (now .j) (widths list) ≡ getD (list .widths) (now .j) 0 ∷ drop (suc (now .j)) (widths list)
 more c =
     let now = c .before .before .loop in
     let list = c .before .before .before .before .before .args .t1 in
-    widths-from list (now .i) (now .inv .1) (now .inv .2) (omega arith)
+    widths-from list (now .j) (now .inv .1) (now .inv .2) (omega arith)
 
 -- its cells are there, and the count stays small
 next : (c : tie.After-box-cells Inv-loop μ-loop) → let now = c .before .before .before .loop in let a = c .before .before .before .before .before .before .args in
     record {
-      room : now .from + length (now .row) * c .box-cells .result ≤ length (now .cells);
-      size : length (now .row) * c .box-cells .result ≡ length (a .row .now) * boxCells (getD (a .t1 .widths) (now .i) 0);
-      small : now .sum + length (a .row .now) * boxCost (getD (a .t1 .widths) (now .i) 0) ≤ 1279 * 96;
+      room : now .start + length (now .row) * c .box-cells .result ≤ length (now .cells);
+      size : length (now .row) * c .box-cells .result ≡ length (a .row .now) * boxCells (getD (a .t1 .widths) (now .j) 0);
+      small : now .total + length (a .row .now) * boxCost (getD (a .t1 .widths) (now .j) 0) ≤ 1279 * 96;
     }
 next c =
     let now = c .before .before .before .loop in
     let a = c .before .before .before .before .before .before .args in
-    let n = getD (a .t1 .widths) (now .i) 0 in
+    let n = getD (a .t1 .widths) (now .j) 0 in
     let l = now .inv .7 in
     let most : total boxCost (widths (a .t1)) ≤ 96 =
     omega (arith, total-most boxCost 2 cost-most (widths (a .t1)), length-widths (a .t1), now .inv .1) in
@@ -85,11 +85,11 @@ few c =
     let wide : length (now .row) ≤ 1279 = omega arith in
     mul-le-mul wide (c .box-cells .ensures .1)
 
-mul-to : tie.Need-mul-to Inv-loop μ-loop
-mul-to c = record { fits = omega (arith, few c) }
+mul-end : tie.Need-mul-end Inv-loop μ-loop
+mul-end c = record { fits = omega (arith, few c) }
 
-add-to : tie.Need-add-to Inv-loop μ-loop
-add-to c = record { fits = omega (arith, few c, next c .room) }
+add-end : tie.Need-add-end Inv-loop μ-loop
+add-end c = record { fits = omega (arith, few c, next c .room) }
 
 mul-column-box : tie.Need-mul-column-box Inv-loop μ-loop
 mul-column-box c = search needs
@@ -108,25 +108,25 @@ column-box-requires c κs =
     let now = c .before .before .before .before .before .loop in
     let k = next (c .before .before) in
     let few = c .before .before .box-cells in
-    let u : now .from + length (now .row) * few .result - now .from ≡ length (now .row) * few .result = omega arith in (
+    let u : now .start + length (now .row) * few .result - now .start ≡ length (now .row) * few .result = omega arith in (
       omega arith,
       omega arith,
-      length-take-le _ (drop (now .from) (now .cells)) (omega (arith, length-drop (now .from) (now .cells), k .room)) ∙ u ∙ ap (λ x. length (now .row) * x) (few .ensures .0),
+      length-take-le _ (drop (now .start) (now .cells)) (omega (arith, length-drop (now .start) (now .cells), k .room)) ∙ u ∙ ap (λ x. length (now .row) * x) (few .ensures .0),
     )
 
 -- what the stage adds to the count
 added : (c : tie.After-column-box Inv-loop μ-loop) → let now = c .before .before .before .before .before .before .loop in let a = c .before .before .before .before .before .before .before .before .before .args in
-    c .column-box .result ≡ length (a .row .now) * boxCost (getD (a .t1 .widths) (now .i) 0)
+    c .column-box .result ≡ length (a .row .now) * boxCost (getD (a .t1 .widths) (now .j) 0)
 added c =
     let now = c .before .before .before .before .before .before .loop in
     let a = c .before .before .before .before .before .before .before .before .before .args in
-    c .column-box .ensures .0 ∙ ap (λ k. k * boxCost (getD (a .t1 .widths) (now .i) 0)) (now .inv .5)
+    c .column-box .ensures .0 ∙ ap (λ k. k * boxCost (getD (a .t1 .widths) (now .j) 0)) (now .inv .5)
 
-add-sum : tie.Need-add-sum Inv-loop μ-loop
-add-sum c = record { fits = omega (arith, next (c .before .before .before .before .before .before .before) .small, added (c .before .before .before .before)) }
+add-total : tie.Need-add-total Inv-loop μ-loop
+add-total c = record { fits = omega (arith, next (c .before .before .before .before .before .before .before) .small, added (c .before .before .before .before)) }
 
-add-i : tie.Need-add-i Inv-loop μ-loop
-add-i c = search needs
+add-j : tie.Need-add-j Inv-loop μ-loop
+add-j c = search needs
 
 loop-less : tie.Need-loop-less Inv-loop μ-loop
 loop-less c = search needs
@@ -137,9 +137,9 @@ loop-again c =
     let a = c .before .before .before .before .before .before .before .before .before .before .before .before .before .args in
     let box = c .before .before .before .before .column-box in
     let size = c .before .before .before .before .before .before .before .box-cells in
-    let l = left-more (λ n. length (a .row .now) * boxCells n) boxCost (columnStage (a .emitted)) _ _ _ (now .i) (now .row) (now .cells) (now .from) (now .sum) (now .inv .7)
-    (getD (a .t1 .widths) (now .i) 0) (more (c .before .before .before .before .before .before .before .before)) (box .result) (now .from + length (now .row) * size .result) _ _ _
-    (added (c .before .before .before .before)) (ap (λ k. now .from + k) (next (c .before .before .before .before .before .before .before) .size)) refl (box .ensures .1) (box .ensures .2) (box .kept .1 .1 .0) (box .kept .1 .1 .1 .0)
+    let l = left-more (λ n. length (a .row .now) * boxCells n) boxCost (columnStage (a .emitted)) _ _ _ (now .j) (now .row) (now .cells) (now .start) (now .total) (now .inv .7)
+    (getD (a .t1 .widths) (now .j) 0) (more (c .before .before .before .before .before .before .before .before)) (box .result) (now .start + length (now .row) * size .result) _ _ _
+    (added (c .before .before .before .before)) (ap (λ k. now .start + k) (next (c .before .before .before .before .before .before .before) .size)) refl (box .ensures .1) (box .ensures .2) (box .kept .1 .1 .0) (box .kept .1 .1 .1 .0)
     (omega (arith, length-widths (a .t1), now .inv .0)) in
     (now .inv .0, now .inv .1, now .inv .2, now .inv .3, now .inv .4, l .width, l .count, l)
 
@@ -167,15 +167,15 @@ down-spec =
     loop-holds
     element-copy-out-n
     box-cells-requires
-    mul-to
-    add-to
+    mul-end
+    add-end
     mul-column-box
     sub-column-box
     part-column-box-start
     part-column-box-end
     column-box-requires
-    add-sum
-    add-i
+    add-total
+    add-j
     loop-less
     loop-again
     same-length
