@@ -8,7 +8,7 @@ ghost use Rattle.spec.specs.Picture.{fullWidth, fullHeight};
 ghost use Rattle.spec.specs.Stream.{streamCells};
 ghost use Rattle.spec.specs.Gray.{variance};
 ghost use Rattle.spec.specs.Refusals.{first, lent, recipeChecks, sizeChecks, cellChecks};
-ghost use Rattle.spec.specs.Cases.{picture};
+ghost use Rattle.spec.specs.Picture.{picture};
 ghost use Rattle.filter.specs.Filled.{Filled};
 ghost use Rattle.direct.specs.Formed.{Formed};
 ghost use Rattle.passes.specs.Passed.{Passed};

@@ -1,14 +1,14 @@
 -- What forming all exact sums answers: the order of its checks, and what is known once none of them holds.
 -- Assumes nothing.
 use mathlib.Core.Path.{_≡_, refl, sym, ap, ap₂, _∙_}
-use mathlib.Core.Bool.{true, false, not, cond, _||_}
+use mathlib.Core.Bool.{false, cond, _||_}
 use mathlib.Core.List.{List}
 use Prim.Native.Nat.{ℕ, _+_, _-_, _*_, _^_, _≤_, _<_}
 use native.Mathlib.Nat.{le-trans, le-of-eq, mul-one, mul-comm, mul-le-mul, le-mul-of-pos-right}
 use native.Mathlib.Omega.{arith}
 use lib.Dec.{eqb}
 use lib.ListN.{length}
-use borrow.Author.Tests.{eq-eqb, ne-eqb, le-ltb}
+use borrow.Author.Tests.{ne-eqb, le-ltb}
 use Rattle.spec.specs.Words.{product, somewhere, total}
 use Rattle.spec.specs.Recipe.{Recipe, kernel, order, gain}
 use Rattle.spec.specs.Picture.{Picture, fullWidth, fullHeight, full}
@@ -16,20 +16,11 @@ use Rattle.spec.specs.Refusals.{first, check, alone, tooLong, zeroWidth, tooFar
 use Rattle.laws.proofs.Lists.{product-zero}
 use Rattle.laws.proofs.Kernels.{kernel-sum, length-kernel}
 use Rattle.laws.proofs.Exact.{rows-pos, columns-pos}
-use Rattle.laws.proofs.Refusals.{Accepted, AcceptedPicture, first-front, first-then, first-none, none-both, neither, recipe-numbered, size-numbered, picture-numbered, is-accepted-picture, same-length-so, lent-refused, lent-accepted}
+use Rattle.laws.proofs.Refusals.{Accepted, AcceptedPicture, as-stated, not-stated, picture-sides, picture-pixels, picture-rest, first-then, first-none, none-both, neither, recipe-numbered, picture-numbered, is-accepted-picture, same-length-so, lent-refused, lent-accepted}
 use Rattle.filter.specs.Filled.{Filled}
 use Rattle.direct.specs.Formed.{checks, Formed}
 use Rattle.direct.specs.Windows.{windows, weight, Ready}
 use Rattle.direct.proofs.Weighing.{windows-full}
-
--- lengths that are as stated, and that are not
-as-stated : (m n : ℕ) → m ≡ n → otherOutput m n ≡ false
-unfolding otherOutput
-as-stated m n e = ap not (eq-eqb m n e)
-
-not-stated : (m n : ℕ) → (m ≡ n → ⊥) → otherOutput m n ≡ true
-unfolding otherOutput
-not-stated m n h = ap not (ne-eqb m n h)
 
 module _ (r : Recipe) (p : Picture) (rows columns out : ℕ) where
   abbrev number : ℕ
@@ -37,29 +28,22 @@ module _ (r : Recipe) (p : Picture) (rows columns out : ℕ) where
 
   -- 1 to 5
   pub by-size : (n : ℕ) → first (sizeChecks r (p .width) (p .height)) ≡ n → (n ≡ 0 → ⊥) → number ≡ n
-  unfolding directChecks pictureChecks
-  by-size n e h = first-front (pictureChecks r p) _ n (first-front (sizeChecks r (p .width) (p .height)) _ n e h) h
+  unfolding directChecks
+  by-size n e h = picture-sides r p _ n e h
 
   module _ (none : first (sizeChecks r (p .width) (p .height)) ≡ 0) where
-    six : first (pictureChecks r p) ≡ cond (otherPixels (length (p .pixels)) (p .width * p .height)) 6 0
-    unfolding pictureChecks
-    six = first-then (sizeChecks r (p .width) (p .height)) _ 6 (size-numbered r (p .width) (p .height)) none
-
     pub by-pixels : (length (p .pixels) ≡ p .width * p .height → ⊥) → number ≡ 6
-    unfolding directChecks otherPixels
-    by-pixels h =
-        first-front (pictureChecks r p) _ 6 (six ∙ ap (λ b. cond (not b) 6 0) (ne-eqb (length (p .pixels)) (p .width * p .height) h))
-        (λ e. omega arith)
+    unfolding directChecks
+    by-pixels h = picture-pixels r p _ none h
 
     -- 7, for the slices in their order
     module _ (size : length (p .pixels) ≡ p .width * p .height) where
       seven : number ≡ cond (otherOutput rows (order (r .rows) + 1) || otherOutput columns (order (r .columns) + 1) || otherOutput out (fullSize r p)) 7 0
-      unfolding directChecks otherPixels
-      seven =
-          first-then (pictureChecks r p) _ 7 (picture-numbered r p)
-          (six ∙ ap (λ b. cond (not b) 6 0) (eq-eqb (length (p .pixels)) (p .width * p .height) size))
+      unfolding directChecks first check
+      seven = picture-rest r p _ none size
 
       pub by-rows : (rows ≡ order (r .rows) + 1 → ⊥) → number ≡ 7
+      unfolding otherOutput otherPixels
       by-rows h =
           seven
           ∙ ap (λ b. cond (b || otherOutput columns (order (r .columns) + 1) || otherOutput out (fullSize r p)) 7 0)
@@ -67,6 +51,7 @@ module _ (r : Recipe) (p : Picture) (rows columns out : ℕ) where
 
       module _ (one : rows ≡ order (r .rows) + 1) where
         pub by-columns : (columns ≡ order (r .columns) + 1 → ⊥) → number ≡ 7
+        unfolding otherOutput otherPixels
         by-columns h =
             seven
             ∙ ap₂ (λ a b. cond (a || b || otherOutput out (fullSize r p)) 7 0)
@@ -74,15 +59,18 @@ module _ (r : Recipe) (p : Picture) (rows columns out : ℕ) where
 
         module _ (two : columns ≡ order (r .columns) + 1) where
           last : number ≡ cond (otherOutput out (fullSize r p)) 7 0
+          unfolding otherOutput otherPixels
           last =
               seven
               ∙ ap₂ (λ a b. cond (a || b || otherOutput out (fullSize r p)) 7 0)
               (as-stated rows (order (r .rows) + 1) one) (as-stated columns (order (r .columns) + 1) two)
 
           pub by-out : (out ≡ fullSize r p → ⊥) → number ≡ 7
+          unfolding otherOutput otherPixels
           by-out h = last ∙ ap (λ b. cond b 7 0) (not-stated out (fullSize r p) h)
 
           pub by-none : out ≡ fullSize r p → number ≡ 0
+          unfolding otherOutput otherPixels
           by-none e = last ∙ ap (λ b. cond b 7 0) (as-stated out (fullSize r p) e)
 
 -- what is known of a call to which none of 1 to 7 applies
@@ -129,7 +117,7 @@ light-alone ns l =
 
 -- the coefficients of such a list are filled in
 pub filled-whole : (ns old new : List ℕ) (number : ℕ) → Light ns → length old ≡ order ns + 1 → Filled ns old number new → new ≡ kernel ns
-unfolding kernelChecks
+unfolding kernelChecks otherOutput otherPixels
 filled-whole ns old new number l s f =
     let none = first-then (recipeChecks (alone ns)) _ 7 (recipe-numbered (alone ns)) (light-alone ns l) in
     f .slice ∙ lent-accepted _ (kernel ns) old (none ∙ ap (λ b. cond b 7 0) (as-stated (length old) (order ns + 1) s))

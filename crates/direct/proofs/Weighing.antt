@@ -1,26 +1,22 @@
 -- Sequences through coefficients: a loop that adds up the terms of the window, cut to where the sequence is not 0; and the exact sum.
 -- Assumes nothing.
-use mathlib.Core.Path.{_≡_, refl, sym, ap, ap₂, _∙_}
-use mathlib.Core.Bool.{Bool, true, false, cond, _&&_}
+use mathlib.Core.Path.{_≡_, sym, ap, ap₂, _∙_}
 use mathlib.Core.List.{List, _++_, flatten}
 use Prim.Native.Nat.{ℕ, suc, _+_, _-_, _*_, _≤_, _<_, min}
 use native.Mathlib.Nat.{le-trans, le-of-eq, mul-add, mul-zero, mul-comm, mul-le-mul-left, mul-le-mul-right, suc-mul}
 use native.Mathlib.Decide.{decLe, decLt}
 use native.Mathlib.Numerals.{add-one}
 use native.Mathlib.Omega.{arith}
-use lib.Dec.{ltb}
 use lib.ListN.{length, getD, take, drop, length-drop, List·getD-eq-default}
 use lib.Seq.{getD-take, getD-drop, length-take-le}
-use borrow.Author.Tests.{lt-ltb, le-ltb}
 use Rattle.spec.specs.Words.{sum, tab}
 use Rattle.spec.specs.Recipe.{Recipe, kernel, order, gain}
-use Rattle.spec.specs.Picture.{Picture, pixel, exact, fullWidth, fullHeight, fullRow, full}
-use Rattle.spec.specs.Cases.{picture}
+use Rattle.spec.specs.Picture.{Picture, exact, fullWidth, fullHeight, fullRow, full, picture}
 use Rattle.laws.proofs.Sums.{sum-agree, sum-zero, sum-split, sum-grows}
 use Rattle.laws.proofs.Lists.{length-tab, getD-tab, tab-agree}
 use Rattle.laws.proofs.Sequences.{behind, behind-within, behind-before, behind-agree}
 use Rattle.laws.proofs.Kernels.{at, length-kernel}
-use Rattle.laws.proofs.Exact.{line, across, exact-down, rows-pos, columns-pos, length-rows, getD-rows}
+use Rattle.laws.proofs.Exact.{pixel-right, pixel-below, pixel-inside, line, across, exact-down, rows-pos, columns-pos, length-rows, getD-rows}
 use Rattle.laws.proofs.Slices.{Mixed, mixed-part}
 use Rattle.direct.specs.Windows.{through, window, windows, weight}
 
@@ -94,18 +90,13 @@ through-agree ks f g i e =
 
 -- a row past the last of a picture
 pub row-past : (rs : List ℕ) (w h : ℕ) (ps : List ℕ) (i v : ℕ) → h ≤ v → through rs (line (picture w h ps) v) i ≡ 0
-unfolding through line pixel
+unfolding through line
 row-past rs w h ps i v past =
-    through-agree rs (line (picture w h ps) v) (λ k. 0) i
-    (λ k. ap (λ b. cond (ltb k w && b) (getD ps (v * w + k) 0) 0) (le-ltb v h past) ∙ nothing (ltb k w) (getD ps (v * w + k) 0))
+    through-agree rs (line (picture w h ps) v) (λ k. 0) i (λ k. pixel-below (picture w h ps) k v past)
     ∙ sum-agree (λ a. at rs a * behind (λ k. 0) a i) (λ a. 0) (length rs)
     (λ a l. ap (λ x. at rs a * x) (behind-nothing a) ∙ mul-zero (at rs a))
     ∙ sum-zero (length rs)
   where
-    nothing : (b : Bool) (x : ℕ) → cond (b && false) x 0 ≡ 0
-    nothing true x = refl
-    nothing false x = refl
-
     behind-nothing : (a : ℕ) → behind (λ k. 0) a i ≡ 0
     behind-nothing a =
         elim (decLe a i) [
@@ -135,18 +126,18 @@ window-exact r p h i j =
 -- row v of a picture, as the part of its pixels that is lent
 pub line-part : (w h v : ℕ) (ps : List ℕ) (from to : ℕ) → from ≡ v * w → to ≡ from + w → v < h → to ≤ length ps
     → (k : ℕ) → at (take (to - from) (drop from ps)) k ≡ line (picture w h ps) v k
-unfolding at line pixel
+unfolding at line
 line-part w h v ps from to e d g fits k =
     let size : to - from ≡ w = omega arith in
-    rw (size, lt-ltb v h g)
+    let p = picture w h ps in
+    rw size
     (elim (decLt k w) [
       | yes l ↦
-          rw (lt-ltb k w l)
-          (getD-take w (drop from ps) k 0 l ∙ getD-drop from ps k 0 ∙ ap (λ n. getD ps (n + k) 0) e)
+          getD-take w (drop from ps) k 0 l ∙ getD-drop from ps k 0 ∙ ap (λ n. getD ps (n + k) 0) e ∙ sym (pixel-inside p k v l g)
       | no l ↦
           let past : w ≤ k = omega arith in
           let len : length (take w (drop from ps)) ≡ w = length-take-le w (drop from ps) (omega (arith, length-drop from ps)) in
-          rw (le-ltb k w past) (List·getD-eq-default (take w (drop from ps)) 0 (omega arith))
+          List·getD-eq-default (take w (drop from ps)) 0 (omega arith) ∙ sym (pixel-right p k v past)
     ])
 
 -- The places of the grown picture: how many there are, what stands at each, and an output that is written row by row.

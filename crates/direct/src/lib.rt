@@ -4,7 +4,7 @@ mod sums;
 
 ghost use mathlib.Core.Path.{_≡_};
 ghost use Rattle.spec.specs.Recipe.{recipe};
-ghost use Rattle.spec.specs.Cases.{picture};
+ghost use Rattle.spec.specs.Picture.{picture};
 ghost use Rattle.spec.specs.Refusals.{first, directChecks};
 ghost use Rattle.direct.specs.Formed.{Formed};
 use crate::sums::form;

@@ -3,7 +3,7 @@ ghost use mathlib.Core.Path.{_≡_};
 ghost use Prim.Native.Nat.{_+_, _-_, _*_, _<_, _≤_, _^_, min};
 ghost use lib.ListN.{length};
 ghost use Rattle.spec.specs.Words.{tab};
-ghost use Rattle.spec.specs.Cases.{picture};
+ghost use Rattle.spec.specs.Picture.{picture};
 ghost use Rattle.laws.proofs.Kernels.{at};
 ghost use Rattle.direct.specs.Windows.{through, window, windows, weight, Ready};
 

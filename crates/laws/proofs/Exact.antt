@@ -11,6 +11,7 @@ use native.Mathlib.Omega.{arith}
 use lib.Dec.{leb, ltb}
 use lib.ListN.{length, getD, length-append, List·getD-append}
 use lib.Seq.{getD-append-add}
+use borrow.Author.Tests.{lt-ltb, le-ltb}
 use Rattle.spec.specs.Words.{sum, tab, product}
 use Rattle.spec.specs.Recipe.{Recipe, kernel, order, gain}
 use Rattle.spec.specs.Picture.{Picture, pixel, pixelBack, exact, fullWidth, fullHeight, fullRow, full}
@@ -20,6 +21,23 @@ use Rattle.laws.proofs.Sequences.{behind, behind-within, behind-before}
 use Rattle.laws.proofs.Convolution.{conv-agree}
 use Rattle.laws.proofs.Kernels.{at, kernel-sum}
 use Rattle.laws.proofs.Cascades.{cascaded, cascaded-conv, conv-short, kernel-short, behind-sum, behind-times}
+
+-- a pixel inside the picture, and black outside it
+pub pixel-right : (p : Picture) (i j : ℕ) → p .width ≤ i → pixel p i j ≡ 0
+unfolding pixel
+pixel-right p i j h = rw (le-ltb i (p .width) h) refl
+
+pub pixel-below : (p : Picture) (i j : ℕ) → p .height ≤ j → pixel p i j ≡ 0
+unfolding pixel
+pixel-below p i j h = rw (le-ltb j (p .height) h) (go (ltb i (p .width)))
+  where
+    go : (b : Bool) → cond (b && false) (getD (p .pixels) (j * p .width + i) 0) 0 ≡ 0
+    go true = refl
+    go false = refl
+
+pub pixel-inside : (p : Picture) (i j : ℕ) → i < p .width → j < p .height → pixel p i j ≡ at (p .pixels) (j * p .width + i)
+unfolding pixel at
+pixel-inside p i j h l = rw (lt-ltb i (p .width) h, lt-ltb j (p .height) l) refl
 
 -- row j of a picture as a sequence
 unfoldable pub line : Picture → ℕ → ℕ → ℕ

@@ -1,9 +1,9 @@
--- Numbers held at a limit, and factors that are 0.
+-- Numbers held at a limit, rows of places, and factors that are 0.
 -- Assumes nothing.
 use mathlib.Core.Path.{_≡_, sym, ap}
 use mathlib.Core.Bool.{_||_}
-use Prim.Native.Nat.{ℕ, zero, suc, _*_, _≤_, _<_, min}
-use native.Mathlib.Nat.{zero-lt-suc, mul-zero, zero-mul, mul-pos, le-mul-of-pos-right}
+use Prim.Native.Nat.{ℕ, zero, suc, _+_, _*_, _≤_, _<_, min}
+use native.Mathlib.Nat.{zero-lt-suc, mul-zero, zero-mul, mul-pos, suc-mul, mul-le-mul-right, le-mul-of-pos-right}
 use native.Mathlib.Decide.{decLe}
 use native.Mathlib.Omega.{arith}
 use lib.Dec.{eqb, eqb·suc-zero}
@@ -23,6 +23,12 @@ cap-times a (suc n) c =
           let most : a ≤ a * suc n = le-mul-of-pos-right a (zero-lt-suc n) in
           omega (arith, ap (λ x. x * suc n) e)
     ]
+
+-- row j of rows of w places ends where row j + 1 begins
+pub row-fits : (w j rows : ℕ) → j < rows → j * w + w ≤ rows * w
+row-fits w j rows h =
+    let g : suc j * w ≤ rows * w = mul-le-mul-right w h in
+    omega (arith, suc-mul j w)
 
 -- a product is 0 exactly where a factor is
 pub zero-factor : (a b : ℕ) → (eqb a 0 || eqb b 0) ≡ eqb (a * b) 0

@@ -1,6 +1,6 @@
 -- The first condition that holds, in a list of conditions and in a part of it, and what is known of a recipe that is accepted.
 -- Assumes nothing.
-use mathlib.Core.Path.{_≡_, refl, sym, ap₂, _∙_}
+use mathlib.Core.Path.{_≡_, refl, sym, ap, ap₂, _∙_}
 use mathlib.Core.Bool.{Bool, true, false, not, cond, _||_, true≢false}
 use mathlib.Core.List.{List, [], _∷_, _++_}
 use Prim.Native.Nat.{ℕ, zero, suc, _*_, _^_, _≤_, _<_}
@@ -8,7 +8,7 @@ use native.Mathlib.Nat.{pos-of-ne-zero}
 use native.Mathlib.Omega.{arith}
 use lib.Dec.{eqb, ltb}
 use lib.ListN.{length}
-use borrow.Author.Tests.{ltb-false, eqb-false, eqb-true}
+use borrow.Author.Tests.{eq-eqb, ne-eqb, ltb-false, eqb-false, eqb-true}
 use Rattle.spec.specs.Words.{product}
 use Rattle.spec.specs.Recipe.{Recipe, order, gain}
 use Rattle.spec.specs.Picture.{Picture}
@@ -169,7 +169,15 @@ is-sized r w h e =
     let five = neither (badSide w) (badSide h) (first-none (badSides w h) 4 _ (both .1) .0) in
     (is-accepted r (both .0), record { width = good-side w (five .0); height = good-side h (five .1) })
 
--- lengths that are as stated
+-- lengths that are as stated, and that are not; 6 and 7 ask the same
+pub as-stated : (m n : ℕ) → m ≡ n → otherPixels m n ≡ false
+unfolding otherPixels
+as-stated m n e = ap not (eq-eqb m n e)
+
+pub not-stated : (m n : ℕ) → (m ≡ n → ⊥) → otherPixels m n ≡ true
+unfolding otherPixels
+not-stated m n h = ap not (ne-eqb m n h)
+
 pub same-length-so : (m n : ℕ) → otherPixels m n ≡ false → m ≡ n
 unfolding otherPixels
 same-length-so m n e = eqb-true m n (go (eqb m n) e)
@@ -191,3 +199,26 @@ is-accepted-picture r p e =
     let five = is-sized r (p .width) (p .height) (both .0) in
     let six = first-none (otherPixels (length (p .pixels)) (p .width * p .height)) 5 _ (both .1) .0 in
     record { recipe = five .0; sides = five .1; size = same-length-so (length (p .pixels)) (p .width * p .height) six }
+
+-- The checks of a call on a picture, and others after them: by the recipe and the sides, by the pixels, or by the others.
+module _ (r : Recipe) (p : Picture) where
+  pub picture-sides : (ds : List Check) (n : ℕ) → first (sizeChecks r (p .width) (p .height)) ≡ n → (n ≡ 0 → ⊥) → first (pictureChecks r p ++ ds) ≡ n
+  unfolding pictureChecks
+  picture-sides ds n e h = first-front (pictureChecks r p) ds n (first-front (sizeChecks r (p .width) (p .height)) _ n e h) h
+
+  six : first (sizeChecks r (p .width) (p .height)) ≡ 0
+      → first (pictureChecks r p) ≡ cond (otherPixels (length (p .pixels)) (p .width * p .height)) 6 0
+  unfolding pictureChecks
+  six z = first-then (sizeChecks r (p .width) (p .height)) _ 6 (size-numbered r (p .width) (p .height)) z
+
+  pub picture-pixels : (ds : List Check) → first (sizeChecks r (p .width) (p .height)) ≡ 0 → (length (p .pixels) ≡ p .width * p .height → ⊥)
+      → first (pictureChecks r p ++ ds) ≡ 6
+  picture-pixels ds z h =
+      first-front (pictureChecks r p) ds 6 (six z ∙ ap (λ b. cond b 6 0) (not-stated (length (p .pixels)) (p .width * p .height) h)) (λ e. omega arith)
+
+  pub picture-passed : first (sizeChecks r (p .width) (p .height)) ≡ 0 → length (p .pixels) ≡ p .width * p .height → first (pictureChecks r p) ≡ 0
+  picture-passed z e = six z ∙ ap (λ b. cond b 6 0) (as-stated (length (p .pixels)) (p .width * p .height) e)
+
+  pub picture-rest : (ds : List Check) → first (sizeChecks r (p .width) (p .height)) ≡ 0 → length (p .pixels) ≡ p .width * p .height
+      → first (pictureChecks r p ++ ds) ≡ first ds
+  picture-rest ds z e = first-rest (pictureChecks r p) ds (picture-numbered r p) (picture-passed z e)

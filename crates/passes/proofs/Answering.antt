@@ -11,8 +11,8 @@ use lib.Seq.{take-at}
 use borrow.Author.Tests.{eq-eqb, ne-eqb, lt-ltb, le-ltb}
 use Rattle.spec.specs.Recipe.{Recipe}
 use Rattle.spec.specs.Picture.{Picture, full}
-use Rattle.spec.specs.Refusals.{check, first, otherPixels, otherOutput, tooFewCells, fullSize, sizeChecks, pictureChecks, passChecks}
-use Rattle.laws.proofs.Refusals.{first-front, first-rest, first-then, lent-refused, lent-accepted, size-numbered, picture-numbered}
+use Rattle.spec.specs.Refusals.{check, first, otherOutput, tooFewCells, fullSize, sizeChecks, passChecks}
+use Rattle.laws.proofs.Refusals.{lent-refused, lent-accepted, picture-sides, picture-pixels, picture-rest}
 use Rattle.passes.specs.Passed.{checks, Passed}
 
 -- the needed cells came back as ys, and the others were not lent
@@ -33,31 +33,19 @@ module _ (r : Recipe) (p : Picture) (out cells : List ℕ) where
 
   -- 1 to 5
   pub passed-size : (n : ℕ) → first (sizeChecks r (p .width) (p .height)) ≡ n → (n ≡ 0 → ⊥) → Passed r p out cells n out cells
-  unfolding passChecks pictureChecks
-  passed-size n e h =
-      refused-by n (first-front (pictureChecks r p) _ n (first-front (sizeChecks r (p .width) (p .height)) _ n e h) h) h
+  unfolding passChecks
+  passed-size n e h = refused-by n (picture-sides r p _ n e h) h
 
   module _ (z : first (sizeChecks r (p .width) (p .height)) ≡ 0) where
-    six : first (pictureChecks r p) ≡ cond (otherPixels (length (p .pixels)) (p .width * p .height)) 6 0
-    unfolding pictureChecks
-    six = first-then (sizeChecks r (p .width) (p .height)) _ 6 (size-numbered r (p .width) (p .height)) z
-
     pub passed-pixels : (length (p .pixels) ≡ p .width * p .height → ⊥) → Passed r p out cells 6 out cells
-    unfolding passChecks otherPixels
-    passed-pixels h =
-        let e : first (pictureChecks r p) ≡ 6 =
-        six ∙ ap (λ b. cond (not b) 6 0) (ne-eqb (length (p .pixels)) (p .width * p .height) h) in
-        refused-by 6 (first-front (pictureChecks r p) _ 6 e (λ q. omega arith)) (λ q. omega arith)
+    unfolding passChecks
+    passed-pixels h = refused-by 6 (picture-pixels r p _ z h) (λ q. omega arith)
 
     module _ (l : length (p .pixels) ≡ p .width * p .height) where
-      pub picture-accepted : first (pictureChecks r p) ≡ 0
-      unfolding otherPixels
-      picture-accepted = six ∙ ap (λ b. cond (not b) 6 0) (eq-eqb (length (p .pixels)) (p .width * p .height) l)
-
       -- 7 and 8 go by the lengths of the slices
       lengths : first (checks r p out cells) ≡ cond (otherOutput (length out) (fullSize r p)) 7 (cond (tooFewCells (length cells) (fullSize r p)) 8 0)
       unfolding passChecks first check
-      lengths = first-rest (pictureChecks r p) _ (picture-numbered r p) picture-accepted
+      lengths = picture-rest r p _ z l
 
       pub passed-output : (length out ≡ fullSize r p → ⊥) → Passed r p out cells 7 out cells
       unfolding otherOutput

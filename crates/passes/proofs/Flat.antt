@@ -2,38 +2,28 @@
 -- end of each row keep the rows apart, and a cascade down the columns is one with a spread of a row.
 -- Assumes nothing.
 use mathlib.Core.Path.{_≡_, refl, sym, ap, ap₂, _∙_}
-use mathlib.Core.Bool.{Bool, true, false, cond, _&&_}
 use mathlib.Core.List.{List, [], _∷_}
 use Prim.Native.Nat.{ℕ, zero, suc, _+_, _-_, _*_, _/_, _%_, _≤_, _<_}
-use native.Mathlib.Nat.{le-trans, le-of-eq, add-zero, zero-mul, suc-mul, add-mul, mul-one, mul-comm, mul-le-mul-right, mod-lt, mod-eq-of-lt, div-eq-of-lt, div-add-mod', mul-add-div-right, mul-add-mod-self-right, div-lt-iff-lt-mul}
+use native.Mathlib.Nat.{le-trans, le-of-eq, zero-mul, suc-mul, add-mul, mul-one, mul-comm, mul-le-mul-right, mod-lt, div-add-mod', div-lt-iff-lt-mul}
 use native.Mathlib.Decide.{decLe}
 use native.Mathlib.Omega.{arith}
-use lib.Dec.{ltb}
+use lib.Arith.{digits-div, digits-mod}
 use lib.ListN.{length, getD}
 use lib.Seq.{ext-getD}
-use borrow.Author.Tests.{lt-ltb, le-ltb}
 use Rattle.spec.specs.Recipe.{Recipe, kernel, order, gain}
 use Rattle.spec.specs.Picture.{Picture, pixel, exact, fullWidth, fullHeight, full}
 use Rattle.laws.proofs.Sums.{sum-agree}
 use Rattle.laws.proofs.Sequences.{behind, behind-within, behind-before}
 use Rattle.laws.proofs.Kernels.{at, Holds}
 use Rattle.laws.proofs.Cascades.{spread, cascaded, cascaded-agree, cascaded-conv, conv-short, kernel-short}
-use Rattle.laws.proofs.Exact.{line, rows-pos, exact-cascaded, exact-small, length-full, getD-full}
+use Rattle.laws.proofs.Exact.{pixel-right, line, rows-pos, exact-cascaded, exact-small, length-full, getD-full}
 use Rattle.passes.specs.Steps.{flat}
 
 -- column i of row j, in rows of W places
 module _ (W : ℕ) (i : ℕ) (h : i < W) where
-  pub row-of : (j : ℕ) → (j * W + i) / W ≡ j
-  row-of j =
-      let g : 0 < W = omega arith in
-      mul-add-div-right g j i ∙ ap (λ x. j + x) (div-eq-of-lt h) ∙ add-zero j
-
-  pub column-of : (j : ℕ) → (j * W + i) % W ≡ i
-  column-of j = mul-add-mod-self-right j W i ∙ mod-eq-of-lt h
-
   pub flat-at : (p : Picture) (j : ℕ) → flat p W (j * W + i) ≡ pixel p i j
   unfolding flat
-  flat-at p j = ap₂ (pixel p) (column-of j) (row-of j)
+  flat-at p j = ap₂ (pixel p) (digits-mod j h) (digits-div j h)
 
   -- a rows up is a times W places back
   rows-up : (g : ℕ → ℕ) (a v : ℕ) → behind g (a * W) (v * W + i) ≡ behind (λ u. g (u * W + i)) a v
@@ -63,23 +53,6 @@ module _ (W : ℕ) (i : ℕ) (h : i < W) where
       (λ v l.
       sum-agree (λ a. behind g (a * W) (v * W + i)) (λ a. behind (λ u. g (u * W + i)) (a * 1) v) n
       (λ a m. rows-up g a v ∙ ap (λ b. behind (λ u. g (u * W + i)) b v) (sym (mul-one a))))
-
--- black outside the picture
-pub pixel-right : (p : Picture) (i j : ℕ) → p .width ≤ i → pixel p i j ≡ 0
-unfolding pixel
-pixel-right p i j h = rw (le-ltb i (p .width) h) refl
-
-pub pixel-below : (p : Picture) (i j : ℕ) → p .height ≤ j → pixel p i j ≡ 0
-unfolding pixel
-pixel-below p i j h = rw (le-ltb j (p .height) h) (go (ltb i (p .width)))
-  where
-    go : (b : Bool) → cond (b && false) (getD (p .pixels) (j * p .width + i) 0) 0 ≡ 0
-    go true = refl
-    go false = refl
-
-pub pixel-inside : (p : Picture) (i j : ℕ) → i < p .width → j < p .height → pixel p i j ≡ at (p .pixels) (j * p .width + i)
-unfolding pixel at
-pixel-inside p i j h l = rw (lt-ltb i (p .width) h, lt-ltb j (p .height) l) refl
 
 module _ (r : Recipe) (p : Picture) where
   abbrev W : ℕ

@@ -1,6 +1,6 @@
 pub mod Flat
-pub mod Growing
 pub mod Writing
+pub mod Growing
 pub mod Running
 pub mod Buffers
 pub mod Whole

@@ -2,13 +2,14 @@
 -- Assumes nothing.
 use mathlib.Core.Path.{_≡_, sym, ap, _∙_}
 use mathlib.Core.List.{List}
-use Prim.Native.Nat.{ℕ, suc, _+_, _-_, _*_, _^_, _≤_, _<_}
-use native.Mathlib.Nat.{le-trans, le-of-eq, mul-comm, mul-one, suc-mul, mul-le-mul-right, le-mul-of-pos-right}
+use Prim.Native.Nat.{ℕ, _+_, _-_, _*_, _^_, _≤_, _<_}
+use native.Mathlib.Nat.{le-trans, le-of-eq, mul-comm, mul-one, mul-le-mul-right, le-mul-of-pos-right}
 use native.Mathlib.Decide.{decLe, decLt}
 use native.Mathlib.Omega.{arith}
 use lib.ListN.{length}
 use Rattle.laws.proofs.Sequences.{behind, behind-within, behind-before}
 use Rattle.laws.proofs.Kernels.{at}
+use Rattle.laws.proofs.Numbers.{row-fits}
 use Rattle.laws.proofs.Cascades.{spread, spread-grows, slide}
 use Rattle.passes.specs.Steps.{Below, Ready}
 
@@ -63,16 +64,11 @@ module _ (s n : ℕ) (src dst : List ℕ) (here : ℕ) (r : Ready s n src dst) (
   pub sum-moves : n * s ≤ k → spread s n (at src) k + at src (k - n * s) ≡ at dst (k - s) + at src k
   sum-moves h = omega (arith, above, spread-slide s n (at src) k h)
 
--- a row j below so many rows ends before they do, and so does one that begins before they end
-pub whole-row : (s j rows : ℕ) → j < rows → j * s + s ≤ rows * s
-whole-row s j rows h =
-    let g : suc j * s ≤ rows * s = mul-le-mul-right s h in
-    omega (arith, suc-mul j s)
-
+-- a row that begins before so many rows end ends before they do
 pub row-before : (s n j : ℕ) → j * s < n * s → j * s + s ≤ n * s
 row-before s n j h =
     elim (decLt j n) [
-      | yes l ↦ whole-row s j n l
+      | yes l ↦ row-fits s j n l
       | no l ↦
           let g : n * s ≤ j * s = mul-le-mul-right s (omega arith) in
           absurd (omega arith)

@@ -6,7 +6,7 @@ ghost use mathlib.Core.Path.{_≡_};
 ghost use Prim.Native.Nat.{_*_};
 ghost use lib.ListN.{length};
 ghost use Rattle.spec.specs.Recipe.{recipe};
-ghost use Rattle.spec.specs.Picture.{Picture, fullWidth, fullHeight, full};
+ghost use Rattle.spec.specs.Picture.{picture, fullWidth, fullHeight, full};
 ghost use Rattle.spec.specs.Refusals.{first, sizeChecks};
 ghost use Rattle.laws.proofs.Refusals.{AcceptedPicture};
 ghost use Rattle.passes.specs.Passed.{Passed};
@@ -34,11 +34,11 @@ fn run(
     out: &mut [u64],
     work: &mut [u64],
 )
-    requires { let p : Picture = record { width = width; height = height; pixels = now pixels } in
+    requires { let p = picture width height (now pixels) in
         ⌜ AcceptedPicture (recipe filter) p
         × («full_width» ≡ fullWidth (recipe filter) width) × («full_height» ≡ fullHeight (recipe filter) height)
         × (length (now out) ≡ «full_width» * «full_height») × (length (now work) ≡ length (now out)) ⌝ }
-    ensures { λ r. let p : Picture = record { width = width; height = height; pixels = now (pixels .entry) } in
+    ensures { λ r. let p = picture width height (now (pixels .entry)) in
         ⌜ now (out .exit) ≡ full (recipe filter) p ⌝ }
 {
     let size = out.len();
@@ -62,7 +62,7 @@ fn sized(
 ) -> u8
     requires { ⌜ (first (sizeChecks (recipe filter) width height) ≡ 0)
         × («full_width» ≡ fullWidth (recipe filter) width) × («full_height» ≡ fullHeight (recipe filter) height) ⌝ }
-    ensures { λ r. let p : Picture = record { width = width; height = height; pixels = now (pixels .entry) } in
+    ensures { λ r. let p = picture width height (now (pixels .entry)) in
         ⌜ Passed (recipe filter) p (now (out .entry)) (now (cells .entry)) r (now (out .exit)) (now (cells .exit)) ⌝ }
 {
     if pixels.len() != width * height {
@@ -98,7 +98,7 @@ pub fn passes(
     out: &mut [u64],
     cells: &mut [u64],
 ) -> u8
-    ensures { λ r. let p : Picture = record { width = width; height = height; pixels = now (pixels .entry) } in
+    ensures { λ r. let p = picture width height (now (pixels .entry)) in
         ⌜ Passed (recipe filter) p (now (out .entry)) (now (cells .entry)) r (now (out .exit)) (now (cells .exit)) ⌝ }
 {
     let answer = filter::full_size(filter, width, height);

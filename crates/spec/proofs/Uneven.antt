@@ -10,11 +10,11 @@ use lib.IntN.{pos, negsuc}
 use lib.ListN.{replicate, take}
 use Rattle.spec.specs.Words.{sum, tab, part, total, product, somewhere}
 use Rattle.spec.specs.Recipe.{Recipe, box, convolve, kernel, order, gain}
-use Rattle.spec.specs.Picture.{Picture, pixel, pixelBack, fullWidth, fullHeight, fullSides, exact, fullRow, full}
+use Rattle.spec.specs.Picture.{Picture, picture, pixel, pixelBack, fullWidth, fullHeight, fullSides, exact, fullRow, full}
 use Rattle.spec.specs.Stream.{State, boxCells, cascadeCells, streamCells}
 use Rattle.spec.specs.Gray
 use Rattle.spec.specs.Gray.{asGray, asSum, asQuotient, grayReading, sumReading, quotientReading}
-use Rattle.spec.specs.Cases.{recipeOf, picture, twos}
+use Rattle.spec.specs.Cases.{recipeOf, twos}
 use Rattle.spec.specs.Job
 use Rattle.spec.specs.Program
 use Rattle.spec.specs.Refusals

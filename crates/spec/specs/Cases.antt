@@ -6,7 +6,7 @@ use lib.Ieee.{binary64, toBits}
 use lib.IntN.{ℤ, pos, negℤ}
 use lib.ListN.{take, replicate}
 use Rattle.spec.specs.Recipe.{Recipe, kernel, order, gain}
-use Rattle.spec.specs.Picture.{Picture, full}
+use Rattle.spec.specs.Picture.{Picture, picture, full}
 use Rattle.spec.specs.Gray.{places, sameSum, sameGray, difference, sameQuotient, variance}
 use Rattle.spec.specs.Same.{equivalent}
 use Rattle.spec.specs.Refusals.{alone}
@@ -54,12 +54,9 @@ pub record Case : Type 0 where
 abbrev pub case : Question → List ℤ → Case
 case q e = record { question = q; expected = e }
 
--- a recipe and a picture by their parts, and n widths of 2
+-- a recipe by its parts, and n widths of 2
 abbrev pub recipeOf : List ℕ → List ℕ → Recipe
 recipeOf ns ms = record { rows = ns; columns = ms }
-
-abbrev pub picture : ℕ → ℕ → List ℕ → Picture
-picture w h xs = record { width = w; height = h; pixels = xs }
 
 abbrev pub twos : ℕ → List ℕ
 twos n = replicate n 2

@@ -13,6 +13,9 @@ pub record Picture : Type 0 where
   pub height : ℕ
   pub pixels : List ℕ
 
+abbrev pub picture : ℕ → ℕ → List ℕ → Picture
+picture w h xs = record { width = w; height = h; pixels = xs }
+
 -- the pixel at column i, row j; a pixel outside the picture is 0
 unfoldable pub pixel : Picture → ℕ → ℕ → ℕ
 pixel p i j = cond (ltb i (p .width) && ltb j (p .height)) (getD (p .pixels) (j * p .width + i) 0) 0

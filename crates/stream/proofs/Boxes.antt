@@ -4,15 +4,18 @@ use mathlib.Core.Path.{_≡_, refl, sym, ap, ap₂, _∙_}
 use mathlib.Core.Bool.{cond}
 use mathlib.Core.List.{List, [], _∷_}
 use Prim.Native.Nat.{ℕ, suc, _+_, _-_, _*_, _%_, _^_, _≤_, _<_}
-use native.Mathlib.Nat.{le-refl}
+use native.Mathlib.Nat.{le-refl, mul-le-mul}
 use native.Mathlib.Decide.{decLe, decLt}
 use native.Mathlib.Omega.{arith}
 use lib.Dec.{ltb}
 use lib.ListN.{length, getD, set, replicate}
 use borrow.Author.Tests.{lt-ltb, le-ltb, ne-eqb}
-use Rattle.spec.specs.Words.{sum, tab}
+use Rattle.spec.specs.Words.{sum, tab, total}
+use Rattle.spec.specs.Recipe.{widths}
+use Rattle.spec.specs.declared.Cascade.{Cascade}
 use Rattle.laws.proofs.Sums.{sum-agree, sum-split}
-use Rattle.laws.proofs.Lists.{length-tab, getD-tab, tab-agree, tab-replicate}
+use Rattle.laws.proofs.Lists.{length-tab, getD-tab, tab-agree, tab-replicate, total-most}
+use Rattle.filter.proofs.Widths.{length-widths}
 use Rattle.laws.proofs.Sequences.{behind, boxed, running, behind-zero, behind-within, behind-before, boxed-running}
 use Rattle.laws.proofs.Kernels.{at}
 use Rattle.spec.specs.Stream.{boxCells, boxCost}
@@ -173,3 +176,9 @@ cost-most n =
             | no g ↦ let e : n ≡ 2 = omega arith in omega (arith, cost-two n e)
           ]
     ]
+
+-- the count of a cascade is small
+pub cascade-small : (list : Cascade) (w : ℕ) → list .count ≤ 48 → w ≤ 1279 → w * total boxCost (widths list) ≤ 1279 * 96
+cascade-small list w h k =
+    let n : total boxCost (widths list) ≤ 96 = omega (arith, total-most boxCost 2 cost-most (widths list), length-widths list) in
+    mul-le-mul k n

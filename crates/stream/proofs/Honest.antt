@@ -4,7 +4,7 @@ use mathlib.Core.Path.{_≡_, refl, sym, ap, ap₂, subst, _∙_}
 use mathlib.Core.List.{List, [], _∷_, _++_}
 use mathlib.Core.Logic.{_⊎_, inl, inr}
 use Prim.Native.Nat.{ℕ, zero, suc, _+_, _-_, _*_, _%_, _^_, _≤_, _<_}
-use native.Mathlib.Nat.{mul-comm, mul-one, suc-mul, le-trans, le-of-eq, mul-le-mul-right}
+use native.Mathlib.Nat.{mul-comm, mul-one, le-trans, le-of-eq}
 use native.Mathlib.Numerals.{add-one}
 use native.Mathlib.Decide.{decLt}
 use native.Mathlib.Omega.{arith}
@@ -12,6 +12,7 @@ use lib.ListN.{length, getD, take, drop, length-append, length-drop}
 use lib.Seq.{length-take-le, take-append-seam, drop-append-seam, getD-take, getD-drop}
 use Rattle.spec.specs.Words.{sum, tab, total, product}
 use Rattle.spec.specs.Stream.{boxCells}
+use Rattle.laws.proofs.Numbers.{row-fits}
 use Rattle.laws.proofs.Sums.{sum-agree}
 use Rattle.laws.proofs.Lists.{length-tab, getD-tab, factor-pos}
 use Rattle.laws.proofs.Sequences.{behind, boxed, behind-zero, behind-suc, behind-start, behind-within, behind-before, behind-agree}
@@ -256,13 +257,13 @@ module _ (w n : ℕ) (f : ℕ → ℕ → ℕ) (e : ℕ) (row own : List ℕ) (r
               ap (λ l. getD l (t * w + i) 0) cells-are
               ∙ elim (decLt t (e % n)) [
                 | yes g ↦
-                    beside (before * w) (e % n * w) row own fits (t * w + i) (inl (omega (arith, below t (e % n) g)))
+                    beside (before * w) (e % n * w) row own fits (t * w + i) (inl (omega (arith, row-fits w t (e % n) g)))
                     ∙ k .slots h t i a b
                     ∙ ap (λ c. sum c (λ j. f j i) % 2 ^ 64) (sym (covered-other n pos e t a (λ q. omega arith)))
                 | no g ↦
                     elim (decLt (e % n) t) [
                       | yes d ↦
-                          beside (before * w) (e % n * w) row own fits (t * w + i) (inr (omega (arith, below (e % n) t d, r .wide)))
+                          beside (before * w) (e % n * w) row own fits (t * w + i) (inr (omega (arith, row-fits w (e % n) t d, r .wide)))
                           ∙ k .slots h t i a b
                           ∙ ap (λ c. sum c (λ j. f j i) % 2 ^ 64) (sym (covered-other n pos e t a (λ q. omega arith)))
                       | no d ↦
@@ -275,9 +276,6 @@ module _ (w n : ℕ) (f : ℕ → ℕ → ℕ) (e : ℕ) (row own : List ℕ) (r
                     ]
               ];
         }
-      where
-        below : (x y : ℕ) → x < y → x * w + w ≤ y * w
-        below x y g = le-trans (le-of-eq (omega (arith, suc-mul x w))) (mul-le-mul-right w g)
 
   -- the stage, whatever its width
   pub column-follows : 0 < n → length own ≡ w * boxCells n
@@ -353,7 +351,7 @@ zero-kept w n f own pos z s =
           z i (omega (arith, s, ap (λ x. w * x) (cells-two n u), mul-one w)) ∙ sym (ap (λ x. x % 2 ^ 64) (behind-start (λ j. f j i) 0));
       slots =
           λ u t i a b.
-          z (t * w + i) (omega (arith, s, ap (λ x. w * x) (cells-wide n u), mul-comm w n, suc-mul t w, mul-le-mul-right w a))
+          z (t * w + i) (omega (arith, s, ap (λ x. w * x) (cells-wide n u), mul-comm w n, row-fits w t n a))
           ∙ sym (ap (λ c. sum c (λ j. f j i) % 2 ^ 64) (covered-none n pos t a));
     }
 

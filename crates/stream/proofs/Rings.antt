@@ -4,12 +4,13 @@ use mathlib.Core.Path.{_≡_, sym, ap, ap₂, _∙_}
 use mathlib.Core.Bool.{cond}
 use mathlib.Core.Logic.{_⊎_, inl, inr, ⊎-elim}
 use Prim.Native.Nat.{ℕ, suc, _+_, _-_, _*_, _/_, _%_, _≤_, _<_}
-use native.Mathlib.Nat.{div-add-mod', mod-lt, suc-mul, zero-mul, le-trans, le-of-eq, mul-le-mul-right}
+use native.Mathlib.Nat.{div-add-mod', mod-lt, suc-mul, zero-mul}
 use native.Mathlib.Decide.{decLt}
 use native.Mathlib.Omega.{arith}
 use lib.Arith.{digits-div, digits-mod}
 use lib.Dec.{eqb, ltb}
 use borrow.Author.Tests.{lt-ltb, le-ltb, eq-eqb, ne-eqb}
+use Rattle.laws.proofs.Numbers.{row-fits}
 use Rattle.stream.specs.Stages.{covered, slotBefore}
 
 module _ (n : ℕ) (pos : 0 < n) where
@@ -162,18 +163,15 @@ module _ (n : ℕ) (e w : ℕ) (two : 1 < n) where
   pub before-less : slotBefore n e < n
   before-less = ⊎-elim (λ u. omega (arith, u .0)) (λ u. omega (arith, u .0, slot-less)) before-cases
 
-  under : (a b : ℕ) → a < b → a * w + w ≤ b * w
-  under a b h = le-trans (le-of-eq (omega (arith, suc-mul a w))) (mul-le-mul-right w h)
-
   pub slot-inside : e % n * w + w ≤ n * w
-  slot-inside = under (e % n) n slot-less
+  slot-inside = row-fits w (e % n) n slot-less
 
   pub before-inside : slotBefore n e * w + w ≤ n * w
-  before-inside = under (slotBefore n e) n before-less
+  before-inside = row-fits w (slotBefore n e) n before-less
 
   pub slots-apart : (slotBefore n e * w + w ≤ e % n * w) ⊎ (e % n * w + w ≤ slotBefore n e * w)
   slots-apart =
       ⊎-elim
-      (λ u. inr (under (e % n) (slotBefore n e) (omega (arith, u .0, u .1))))
-      (λ u. inl (under (slotBefore n e) (e % n) (omega (arith, u .0, u .1))))
+      (λ u. inr (row-fits w (e % n) (slotBefore n e) (omega (arith, u .0, u .1))))
+      (λ u. inl (row-fits w (slotBefore n e) (e % n) (omega (arith, u .0, u .1))))
       before-cases

@@ -1,24 +1,21 @@
 -- One row through all stages, from honest cells: the grown row of exact sums.
 -- Assumes nothing.
-use mathlib.Core.Path.{_≡_, refl, sym, ap, ap₂, subst, _∙_}
-use mathlib.Core.Bool.{Bool, true, false, cond, _&&_}
+use mathlib.Core.Path.{_≡_, sym, ap, subst, _∙_}
 use mathlib.Core.List.{List, [], _++_}
 use Prim.Native.Nat.{ℕ, _+_, _*_, _%_, _^_, _≤_, _<_}
 use native.Mathlib.Nat.{le-trans, le-of-eq, mul-le-mul-left}
 use native.Mathlib.Decide.{decLt}
 use native.Mathlib.Omega.{arith}
-use lib.Dec.{ltb}
 use lib.ListN.{length, getD, take, drop, length-append, length-drop, replicate, length-replicate, getD-replicate, List·getD-append}
 use lib.Seq.{length-take-le, drop-append-seam, getD-drop}
-use borrow.Author.Tests.{lt-ltb, le-ltb}
 use Rattle.spec.specs.Words.{tab, part, total}
 use Rattle.spec.specs.Recipe.{Recipe, gain}
-use Rattle.spec.specs.Picture.{Picture, pixel, exact, fullWidth, fullRow}
+use Rattle.spec.specs.Picture.{Picture, exact, fullWidth, fullRow}
 use Rattle.spec.specs.Stream.{boxCells, cascadeCells, streamCells}
 use Rattle.laws.proofs.Lists.{length-tab, getD-tab, getD-tab-past, tab-agree, total-scale}
 use Rattle.laws.proofs.Kernels.{at, holds-tab}
 use Rattle.laws.proofs.Cascades.{cascaded}
-use Rattle.laws.proofs.Exact.{line, exact-cascaded, exact-small, pixel-small, rows-pos, columns-pos}
+use Rattle.laws.proofs.Exact.{pixel-right, pixel-below, pixel-inside, line, exact-cascaded, exact-small, pixel-small, rows-pos, columns-pos}
 use Rattle.stream.specs.Stages.{Worked, rowStage, columnStage, stages, across, down, worked, entering}
 use Rattle.stream.specs.Runs.{pictureRow}
 use Rattle.stream.proofs.Left.{stages-keep}
@@ -130,29 +127,23 @@ module _ (r : Recipe) (p : Picture) where
 -- The rows that enter: a row of the picture with black places after it, and below the picture a black row.
 module _ (r : Recipe) (p : Picture) where
   pub entering-row : (e : ℕ) → e < p .height → entering r (p .width) (pictureRow p e) ≡ tab (fullWidth r (p .width)) (line p e)
-  unfolding entering pictureRow part line pixel
+  unfolding entering pictureRow part line at
   entering-row e h =
       let w = p .width in
       let row : ℕ → ℕ = λ k. getD (p .pixels) (e * w + k) 0 in
       tab-agree (fullWidth r w) (λ i. getD (tab w row) i 0) (line p e)
       (λ i l.
       elim (decLt i w) [
-        | yes g ↦
-            getD-tab w row i 0 g ∙ sym (ap₂ (λ a b. cond (a && b) (getD (p .pixels) (e * w + i) 0) 0) (lt-ltb i w g) (lt-ltb e (p .height) h))
+        | yes g ↦ getD-tab w row i 0 g ∙ sym (pixel-inside p i e g h)
         | no g ↦
             let u : w ≤ i = omega arith in
-            getD-tab-past w row i 0 u ∙ sym (ap (λ a. cond (a && ltb e (p .height)) (getD (p .pixels) (e * w + i) 0) 0) (le-ltb i w u))
+            getD-tab-past w row i 0 u ∙ sym (pixel-right p i e u)
       ])
 
   pub entering-black : (e : ℕ) → p .height ≤ e → entering r (p .width) [] ≡ tab (fullWidth r (p .width)) (line p e)
-  unfolding entering line pixel
+  unfolding entering line
   entering-black e h =
-      tab-agree (fullWidth r (p .width)) (λ i. getD {A = ℕ} [] i 0) (line p e)
-      (λ i l. sym (ap (λ b. cond (ltb i (p .width) && b) (getD (p .pixels) (e * p .width + i) 0) 0) (le-ltb e (p .height) h) ∙ none (ltb i (p .width)) _))
-    where
-      none : (b : Bool) (x : ℕ) → cond (b && false) x 0 ≡ 0
-      none true x = refl
-      none false x = refl
+      tab-agree (fullWidth r (p .width)) (λ i. getD {A = ℕ} [] i 0) (line p e) (λ i l. sym (pixel-below p i e h))
 
   -- the cells of an accepted start
   pub start-honest : 0 < gain r → (cells : List ℕ) → streamCells r (p .width) ≤ length cells

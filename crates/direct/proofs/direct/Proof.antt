@@ -5,7 +5,7 @@ use lib.ListN.{length}
 use borrow.Author.Needs.{needs}
 use Rattle.spec.specs.Recipe.{recipe, kernel}
 use Rattle.spec.specs.Refusals.{first}
-use Rattle.spec.specs.Cases.{picture}
+use Rattle.spec.specs.Picture.{picture}
 use Rattle.direct.specs.Formed.{checks}
 use Rattle.direct.proofs.Forming.{Called, is-called, rows-light, columns-light, filled-whole, called-ready, called-size, called-full, formed-refused, formed-all}
 use Rattle.direct.proofs.direct.Statement.{statement}

@@ -6,9 +6,8 @@ use native.Mathlib.Nat.{mul-le-mul}
 use native.Mathlib.Omega.{arith}
 use borrow.Author.Needs.{needs}
 use Rattle.spec.specs.Recipe.{recipe, order}
-use Rattle.spec.specs.Picture.{Sides, fullWidth, fullHeight, fullSides}
+use Rattle.spec.specs.Picture.{Sides, fullWidth, fullHeight, fullSides, picture}
 use Rattle.spec.specs.Refusals.{first, sizeChecks, fullSize}
-use Rattle.spec.specs.Cases.{picture}
 use Rattle.laws.proofs.Refusals.{Accepted, Sized, is-sized, read-refused, read-accepted}
 use Rattle.filter.specs.Answers.{sizeTold}
 use Rattle.direct.proofs.Forming.{by-size, by-pixels, by-rows, by-columns, by-out, by-none}

@@ -10,8 +10,8 @@ use lib.Seq.{length-take-le}
 use Rattle.spec.specs.Recipe.{recipe}
 use Rattle.spec.specs.Picture.{Picture, fullWidth, fullHeight}
 use Rattle.spec.specs.Refusals.{fullSize}
-use Rattle.laws.proofs.Refusals.{is-sized, is-accepted-picture}
-use Rattle.passes.proofs.Answering.{cells-after, passed-pixels, picture-accepted, passed-output, passed-cells, passed-all}
+use Rattle.laws.proofs.Refusals.{is-sized, is-accepted-picture, picture-passed}
+use Rattle.passes.proofs.Answering.{cells-after, passed-pixels, passed-output, passed-cells, passed-all}
 use Rattle.passes.proofs.sized.Statement.{statement}
 use Rattle.passes.proofs.sized.Tie as tie
 
@@ -99,7 +99,7 @@ run-requires c κs =
     let args = start .args in
     let r = recipe (args .filter) in
     let p : Picture = record { width = args .width; height = args .height; pixels = args .pixels .now } in
-    let accepted = picture-accepted r p (args .out .now) (args .cells .now) (start .pre .0) (c .before .before .before .before .if1 .left) in
+    let accepted = picture-passed r p (start .pre .0) (c .before .before .before .before .if1 .left) in
     (is-accepted-picture r p accepted, start .pre .1, start .pre .2, if2 .left, part-long (c .before) ∙ sym (if2 .left))
 
 same-length : tie.Need-same-length

@@ -7,7 +7,7 @@ use native.Mathlib.Omega.{arith}
 use borrow.Author.Needs.{needs}
 use lib.ListN.{length, getD, take, drop, length-drop}
 use lib.Seq.{length-take-le}
-use Rattle.spec.specs.Cases.{picture}
+use Rattle.spec.specs.Picture.{picture}
 use Rattle.laws.proofs.Kernels.{at}
 use Rattle.laws.proofs.Exact.{line}
 use Rattle.direct.specs.Windows.{through, window, weight}

@@ -8,7 +8,7 @@ use native.Mathlib.Omega.{arith}
 use borrow.Author.Needs.{needs}
 use lib.ListN.{length, take, drop, length-drop}
 use lib.Seq.{length-take-le}
-use Rattle.spec.specs.Cases.{picture}
+use Rattle.spec.specs.Picture.{picture}
 use Rattle.laws.proofs.Slices.{Mixed, mixed-none, mixed-all, length-mixed}
 use Rattle.direct.specs.Windows.{windows}
 use Rattle.direct.proofs.Weighing.{length-windows, row-fits, row-more}

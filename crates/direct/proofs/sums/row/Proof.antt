@@ -5,7 +5,7 @@ use Prim.Native.Nat.{_-_, _≤_}
 use native.Mathlib.Omega.{arith}
 use borrow.Author.Needs.{needs}
 use lib.ListN.{length, length-set}
-use Rattle.spec.specs.Cases.{picture}
+use Rattle.spec.specs.Picture.{picture}
 use Rattle.laws.proofs.Slices.{Rightwards, rightwards-none, rightwards-more, rightwards-all}
 use Rattle.direct.specs.Windows.{window}
 use Rattle.direct.proofs.sums.row.Statement.{statement}

@@ -11,7 +11,8 @@ use Rattle.laws.proofs.Kernels.{at}
 use Rattle.laws.proofs.Cascades.{spread}
 use Rattle.passes.specs.Steps.{Below}
 use Rattle.passes.proofs.Writing.{below-rewritten}
-use Rattle.passes.proofs.Running.{spread-first, whole-row, row-before}
+use Rattle.passes.proofs.Running.{spread-first, row-before}
+use Rattle.laws.proofs.Numbers.{row-fits}
 use Rattle.passes.proofs.columns.column_pass.Statement.{statement}
 use Rattle.passes.proofs.columns.column_pass.Tie as tie
 
@@ -24,7 +25,7 @@ abbrev μ-loop : tie.MeasureT-loop
 top-row-requires : tie.Need-top-row-requires Inv-loop μ-loop
 top-row-requires c κs =
     let start = c .before .before .before in
-    (omega (arith, start .pre .1 .size, whole-row (start .args .step) 0 (start .args .rows) (start .pre .1 .some), zero-mul (start .args .step)), search needs)
+    (omega (arith, start .pre .1 .size, row-fits (start .args .step) 0 (start .args .rows) (start .pre .1 .some), zero-mul (start .args .step)), search needs)
 
 loop-holds : tie.Need-loop-holds Inv-loop μ-loop
 loop-holds c =
@@ -46,7 +47,7 @@ inside : (c : tie.After-next-row-arg Inv-loop μ-loop) →
 inside c =
     let start = c .before .before .before .before .before .before .before .before .before in
     let turn = c .before .before .loop in
-    omega (arith, turn .inv .0, start .pre .1 .size, whole-row (start .args .step) (turn .j) (start .args .rows) (c .before .loop-test .taken))
+    omega (arith, turn .inv .0, start .pre .1 .size, row-fits (start .args .step) (turn .j) (start .args .rows) (c .before .loop-test .taken))
 
 next-row-requires : tie.Need-next-row-requires Inv-loop μ-loop
 next-row-requires c κs =
@@ -56,7 +57,7 @@ next-row-requires c κs =
     let turn = c .before .before .loop in (
       record { wide = start .pre .0 .wide; size = turn .inv .1 ∙ top-row .kept .1 .1 .0 ∙ start .pre .0 .size; small = start .pre .0 .small },
       start .pre .1 .offsets,
-      omega (arith, turn .inv .0, whole-row (args .step) 0 (turn .j) (turn .inv .2), zero-mul (args .step)),
+      omega (arith, turn .inv .0, row-fits (args .step) 0 (turn .j) (turn .inv .2), zero-mul (args .step)),
       inside c,
       λ h. omega (arith, turn .inv .0, row-before (args .step) (args .n) (turn .j) (omega (arith, turn .inv .0))),
       turn .inv .4,

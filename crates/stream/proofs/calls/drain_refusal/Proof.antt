@@ -1,6 +1,6 @@
-use lib.Dec.{leb}
 -- `stream::calls::drain_refusal` meets its contract: the checks in their order.
 -- Assumes nothing.
+use lib.Dec.{leb}
 use mathlib.Core.Bool.{not, _||_}
 use borrow.Author.Tests.{lt-ltb, le-ltb, le-leb, lt-leb}
 use Rattle.spec.specs.Picture.{fullHeight}

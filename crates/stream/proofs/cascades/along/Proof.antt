@@ -1,13 +1,11 @@
 -- `stream::cascades::along` meets its contract: after each width, the stages that are left give the rest.
 -- Assumes nothing.
-use native.Mathlib.Nat.{mul-le-mul}
-use Rattle.spec.specs.Words.{total}
+use native.Mathlib.Nat.{le-trans}
 use Rattle.spec.specs.Recipe.{widths}
 use Rattle.spec.specs.Stream.{boxCells, boxCost, cascadeCells, cascadeCost}
-use Rattle.laws.proofs.Lists.{total-most}
 use Rattle.filter.proofs.Widths.{widths-from, length-widths}
 use Rattle.stream.specs.Stages.{rowStage}
-use Rattle.stream.proofs.Boxes.{cost-most}
+use Rattle.stream.proofs.Boxes.{cascade-small}
 use Rattle.stream.proofs.Left.{Left, left-none, left-room, left-count, left-more, left-all}
 use mathlib.Core.Path.{_≡_, refl, ap, _∙_}
 use mathlib.Core.List.{_∷_}
@@ -62,12 +60,9 @@ next c =
     let a = c .before .before .before .before .before .before .args in
     let n = getD (a .t1 .widths) (now .i) 0 in
     let l = now .inv .7 in
-    let most : total boxCost (widths (a .t1)) ≤ 96 =
-    omega (arith, total-most boxCost 2 cost-most (widths (a .t1)), length-widths (a .t1), now .inv .1) in
-    let all : length (a .row .now) * total boxCost (widths (a .t1)) ≤ 1279 * 96 = mul-le-mul (now .inv .4) most in
     record {
       room = omega (arith, left-room boxCells boxCost rowStage _ _ _ _ _ _ _ _ l n (more (c .before)), c .box-cells .ensures .0);
-      small = omega (arith, left-count boxCells boxCost rowStage _ _ _ _ _ _ _ _ l n (more (c .before)), all);
+      small = le-trans (left-count boxCells boxCost rowStage _ _ _ _ _ _ _ _ l n (more (c .before))) (cascade-small (a .t1) (length (a .row .now)) (now .inv .1) (now .inv .4));
     }
 
 add-to : tie.Need-add-to Inv-loop μ-loop

@@ -4,10 +4,10 @@ use native.Mathlib.Nat.{mul-le-mul, le-trans, le-of-eq}
 use Rattle.spec.specs.Words.{total}
 use Rattle.spec.specs.Recipe.{widths}
 use Rattle.spec.specs.Stream.{boxCells, boxCost, cascadeCells, cascadeCost}
-use Rattle.laws.proofs.Lists.{total-most, total-scale}
+use Rattle.laws.proofs.Lists.{total-scale}
 use Rattle.filter.proofs.Widths.{widths-from, length-widths}
 use Rattle.stream.specs.Stages.{columnStage}
-use Rattle.stream.proofs.Boxes.{cost-most}
+use Rattle.stream.proofs.Boxes.{cascade-small}
 use Rattle.stream.proofs.Left.{Left, left-none, left-room, left-count, left-more, left-all}
 use mathlib.Core.Path.{_≡_, refl, ap, ap₂, _∙_}
 use mathlib.Core.List.{_∷_}
@@ -66,16 +66,13 @@ next c =
     let a = c .before .before .before .before .before .before .args in
     let n = getD (a .t1 .widths) (now .j) 0 in
     let l = now .inv .7 in
-    let most : total boxCost (widths (a .t1)) ≤ 96 =
-    omega (arith, total-most boxCost 2 cost-most (widths (a .t1)), length-widths (a .t1), now .inv .1) in
-    let all : length (a .row .now) * total boxCost (widths (a .t1)) ≤ 1279 * 96 = mul-le-mul (now .inv .4) most in
     let w = length (a .row .now) in
     let stage = columnStage (a .emitted) in
     let size : length (now .row) * c .box-cells .result ≡ w * boxCells n = ap₂ _*_ (now .inv .5) (c .box-cells .ensures .0) in
     record {
       size = size;
       room = omega (arith, left-room (λ n. w * boxCells n) boxCost stage _ _ _ _ _ _ _ _ l n (more (c .before)), size);
-      small = omega (arith, left-count (λ n. w * boxCells n) boxCost stage _ _ _ _ _ _ _ _ l n (more (c .before)), all);
+      small = le-trans (left-count (λ n. w * boxCells n) boxCost stage _ _ _ _ _ _ _ _ l n (more (c .before))) (cascade-small (a .t1) (length (a .row .now)) (now .inv .1) (now .inv .4));
     }
 
 -- the product is small

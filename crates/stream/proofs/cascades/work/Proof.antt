@@ -1,18 +1,14 @@
 -- `stream::cascades::work` meets its contract: the row list on all cells, the column list on those past its own.
 -- Assumes nothing.
-use native.Mathlib.Nat.{mul-add, mul-le-mul, le-trans, le-of-eq}
+use native.Mathlib.Nat.{mul-add, le-trans, le-of-eq}
 use lib.Seq.{length-take-le}
 use lib.ListN.{length-drop, length, drop}
-use Rattle.spec.specs.Words.{total}
-use Rattle.spec.specs.declared.Cascade.{Cascade}
 use Rattle.spec.specs.Recipe.{recipe, widths}
-use Rattle.spec.specs.Stream.{boxCost, cascadeCells, cascadeCost}
-use Rattle.laws.proofs.Lists.{total-most}
-use Rattle.filter.proofs.Widths.{length-widths}
-use Rattle.stream.proofs.Boxes.{cost-most}
+use Rattle.spec.specs.Stream.{cascadeCells, cascadeCost}
+use Rattle.stream.proofs.Boxes.{cascade-small}
 use Rattle.stream.proofs.Left.{both-lists}
 use mathlib.Core.Path.{_≡_, refl, sym, ap}
-use Prim.Native.Nat.{ℕ, _-_, _*_, _≤_}
+use Prim.Native.Nat.{_-_, _*_, _≤_}
 use native.Mathlib.Omega.{arith}
 use borrow.Author.Needs.{needs}
 use Rattle.stream.proofs.cascades.work.Statement.{statement}
@@ -66,20 +62,14 @@ down-requires c κs =
       le-trans (k .past) (le-of-eq (sym (length-take-le (n - done .result .cells) (drop (done .result .cells) (done .last .1 .1 .0)) (le-of-eq (sym (length-drop (done .result .cells) (done .last .1 .1 .0))))))),
     )
 
--- a count of at most so much
-most : (list : Cascade) (w : ℕ) → w ≤ 1279 → list .count ≤ 48 → w * cascadeCost (widths list) ≤ 1279 * 96
-unfolding cascadeCost
-most list w h k =
-    let n : total boxCost (widths list) ≤ 96 = omega (arith, total-most boxCost 2 cost-most (widths list), length-widths list) in
-    mul-le-mul h n
-
 add-result : tie.Need-add-result
+unfolding cascadeCost
 add-result c =
     let start = c .before .before .before .before .before .before .before .before .before .before .before .before .before .before .before .before .before in
     let a = start .args in
     let first = c .before .before .before .before .before .before .before .before .before .before .before .before .along in
     let w : length (first .last .1 .0) ≤ 1279 = omega (arith, start .pre .3, first .kept .1 .0) in
-    record { fits = omega (arith, first .ensures .0, c .before .before .before .before .before .down .ensures .0, most (a .filter .rows) (length (a .row .now)) (start .pre .3) (start .pre .0), most (a .filter .columns) (length (first .last .1 .0)) w (start .pre .1)) }
+    record { fits = omega (arith, first .ensures .0, c .before .before .before .before .before .down .ensures .0, cascade-small (a .filter .rows) (length (a .row .now)) (start .pre .0) (start .pre .3), cascade-small (a .filter .columns) (length (first .last .1 .0)) (start .pre .1) w) }
 
 same-length : tie.Need-same-length
 same-length c = search needs
