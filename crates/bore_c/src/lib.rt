@@ -1,6 +1,7 @@
 // The calls of the library for C and Rust. A cascade is given as its count and its 48 bytes, a state of
-// the one pass as its seven fields, which the call rewrites. Each call returns document 01's number, 0
-// where it is accepted; on a refusal nothing else is written.
+// the one pass as its seven fields, each in a place of the caller's. Each call returns document 01's
+// number, 0 where it is accepted. On a refusal nothing else is written, but for the fields that stand
+// beside the number: the state of a refused start, of zeros, and the count of a refused row call or drain.
 ghost use mathlib.Core.Path.{_≡_};
 ghost use Rattle.spec.specs.Words.{part};
 ghost use Rattle.spec.specs.Recipe.{recipe, order, gain};
@@ -261,41 +262,38 @@ fn store(
     *emitted = state.emitted;
 }
 
-// The start of the one pass, for the recipe and the sides of a state whose rows yielded play no part:
-// 1 to 5, 8. On a refusal the state becomes one of zeros.
+// The start of the one pass: 1 to 5, 8. The seven last places get the state, of zeros on a refusal.
 #[no_mangle]
 pub extern "C" fn bore_start(
-    row_count: &mut u8,
-    rows: &mut [u8; 48],
-    column_count: &mut u8,
-    columns: &mut [u8; 48],
-    width: &mut usize,
-    height: &mut usize,
-    emitted: &mut usize,
+    row_count: u8,
+    rows: &[u8; 48],
+    column_count: u8,
+    columns: &[u8; 48],
+    width: usize,
+    height: usize,
     cells: &mut [u64],
+    state_row_count: &mut u8,
+    state_rows: &mut [u8; 48],
+    state_column_count: &mut u8,
+    state_columns: &mut [u8; 48],
+    state_width: &mut usize,
+    state_height: &mut usize,
+    emitted: &mut usize,
 ) -> u8
-    ensures { λ r. let s = givenState (now («row_count» .entry)) (now (rows .entry)) (now («column_count» .entry)) (now (columns .entry)) (now (width .entry)) (now (height .entry)) (now (emitted .entry)) in
-        let t = givenState (now («row_count» .exit)) (now (rows .exit)) (now («column_count» .exit)) (now (columns .exit)) (now (width .exit)) (now (height .exit)) (now (emitted .exit)) in
-        ⌜ began r t (now (cells .exit)) ≡ start (s .filter) (s .width) (s .height) (now (cells .entry)) ⌝ }
+    ensures { λ r. let s = givenState «row_count» (now (rows .entry)) «column_count» (now (columns .entry)) width height 0 in
+        let t = givenState (now («state_row_count» .exit)) (now («state_rows» .exit)) (now («state_column_count» .exit)) (now («state_columns» .exit)) (now («state_width» .exit)) (now («state_height» .exit)) (now (emitted .exit)) in
+        ⌜ began r t (now (cells .exit)) ≡ start (s .filter) width height (now (cells .entry)) ⌝ }
 {
-    let given = state_of(
-        *row_count,
-        rows,
-        *column_count,
-        columns,
-        *width,
-        *height,
-        *emitted,
-    );
+    let given = state_of(row_count, rows, column_count, columns, width, height, 0);
     let started = stream::start(given.filter, given.width, given.height, cells);
     store(
         started.state,
-        row_count,
-        rows,
-        column_count,
-        columns,
-        width,
-        height,
+        state_row_count,
+        state_rows,
+        state_column_count,
+        state_columns,
+        state_width,
+        state_height,
         emitted,
     );
     started.refusal

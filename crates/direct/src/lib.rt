@@ -52,28 +52,28 @@ pub fn direct(
     width: usize,
     height: usize,
     pixels: &[u8],
-    rows: &mut [u64],
-    columns: &mut [u64],
+    row_kernel: &mut [u64],
+    column_kernel: &mut [u64],
     out: &mut [u64],
 ) -> u8
     ensures { λ r. let p = picture width height (now (pixels .entry)) in
-        ⌜ Formed (recipe filter) p (now (rows .entry)) (now (columns .entry)) (now (out .entry))
-        r (now (rows .exit)) (now (columns .exit)) (now (out .exit)) ⌝ }
+        ⌜ Formed (recipe filter) p (now («row_kernel» .entry)) (now («column_kernel» .entry)) (now (out .entry))
+        r (now («row_kernel» .exit)) (now («column_kernel» .exit)) (now (out .exit)) ⌝ }
 {
     let number = refusal(
         filter,
         width,
         height,
         pixels,
-        rows.len(),
-        columns.len(),
+        row_kernel.len(),
+        column_kernel.len(),
         out.len(),
     );
     if number != 0 {
         return number;
     }
-    filter::kernel(filter.rows, rows);
-    filter::kernel(filter.columns, columns);
-    form(pixels, width, height, rows, columns, out);
+    filter::kernel(filter.rows, row_kernel);
+    filter::kernel(filter.columns, column_kernel);
+    form(pixels, width, height, row_kernel, column_kernel, out);
     0
 }

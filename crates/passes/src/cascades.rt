@@ -56,7 +56,7 @@ fn other(n: u8, in_out: bool) -> bool
 }
 
 // Where the picture has to be before the widths of a list to be in a given buffer after them: `out` is
-// true. Widths above 1 change the buffer, so that this goes forwards as well as backwards.
+// true. Only the number of widths above 1 decides, so forwards and backwards are the same.
 pub(crate) fn turns(list: Cascade, in_out: bool) -> bool
     requires { ⌜ list .count ≤ 48 ⌝ }
     ensures { λ r. ⌜ r ≡ turnedBy (widths list) «in_out» ⌝ }

@@ -23,7 +23,7 @@ use filter::FullSize;
 use spec::Filter;
 
 // The passes of an accepted recipe over an accepted picture. They go from one buffer to the other and
-// back, and begin so that the last ends in `out`.
+// back, and begin so that the last ends in `out`. Along the rows each place is a row of one.
 fn run(
     filter: Filter,
     width: usize,

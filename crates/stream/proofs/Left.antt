@@ -12,7 +12,7 @@ use lib.Seq.{length-take-le, take-append-seam, drop-append-seam, take-append-le,
 use Rattle.spec.specs.Recipe.{Recipe}
 use Rattle.spec.specs.Stream.{boxCells, cascadeCells}
 use Rattle.spec.specs.Words.{total}
-use Rattle.stream.specs.Stages.{Worked, rowStage, columnStage, stages, across, down, worked}
+use Rattle.stream.specs.Stages.{Worked, rowStage, columnStage, stages, along, down, worked}
 
 module _ (size cost : ℕ → ℕ) (stage : ℕ → List ℕ → List ℕ → Worked) (ws row₀ cells₀ : List ℕ) where
   -- what all stages give, from the stages that are left after i of them
@@ -144,29 +144,29 @@ module _ (r : Recipe) (e own : ℕ) (row cells row₁ cells₁ : List ℕ) (p : 
   back : List ℕ
   back = drop (cascadeCells (r .rows)) cells
 
-  apart : stages boxCells rowStage (r .rows) row cells ≡ record { row = across r row cells .row; cells = across r row cells .cells ++ back }
-  unfolding across front back cascadeCells
+  apart : stages boxCells rowStage (r .rows) row cells ≡ record { row = along r row cells .row; cells = along r row cells .cells ++ back }
+  unfolding along front back cascadeCells
   apart =
       let q : total boxCells (r .rows) ≤ length cells = omega arith in
       ap (stages boxCells rowStage (r .rows) row) (sym (take-append-drop (total boxCells (r .rows)) cells))
       ∙ stages-beyond boxCells rowStage (r .rows) row front back (sym (length-take-le (total boxCells (r .rows)) cells q))
 
-  row-is : row₁ ≡ across r row cells .row
+  row-is : row₁ ≡ along r row cells .row
   row-is = u ∙ ap (λ (w : Worked). w .row) apart
 
-  cells-are : cells₁ ≡ across r row cells .cells ++ back
+  cells-are : cells₁ ≡ along r row cells .cells ++ back
   cells-are = v ∙ ap (λ (w : Worked). w .cells) apart
 
-  mine : own ≡ length (across r row cells .cells)
+  mine : own ≡ length (along r row cells .cells)
   unfolding back
   mine =
-      omega (arith, ap length cells-are, length-append (across r row cells .cells) back, length-drop (cascadeCells (r .rows)) cells)
+      omega (arith, ap length cells-are, length-append (along r row cells .cells) back, length-drop (cascadeCells (r .rows)) cells)
 
-  taken : take own cells₁ ≡ across r row cells .cells
-  taken = ap₂ take mine cells-are ∙ take-append-seam (across r row cells .cells) back
+  taken : take own cells₁ ≡ along r row cells .cells
+  taken = ap₂ take mine cells-are ∙ take-append-seam (along r row cells .cells) back
 
   left : drop own cells₁ ≡ back
-  left = ap₂ drop mine cells-are ∙ drop-append-seam (across r row cells .cells) back
+  left = ap₂ drop mine cells-are ∙ drop-append-seam (along r row cells .cells) back
 
   size : length back ≡ length cells₁ - own
   unfolding back

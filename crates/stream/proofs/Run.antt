@@ -22,8 +22,8 @@ use Rattle.laws.proofs.Exact.{line}
 use Rattle.stream.specs.declared.calls.State.{State}
 use Rattle.stream.specs.Stages.{entering}
 use Rattle.stream.specs.Calls.{Called, stateOf, next, steps, answers, push, drain, Began, start, started}
-use Rattle.stream.specs.Runs.{Call, aRow, aDrain, answer, Yielded, run, Carried, carried, rowOf, rows, outputs, isRow, kinds, pictureRow, whole}
-use Rattle.stream.specs.OnePass.{Bytes, accepted, left, OnePass}
+use Rattle.stream.specs.Runs.{Call, aRow, aDrain, answerOf, Yielded, run, Carried, carried, rowOf, rows, outputs, isRow, kinds, pictureRow, whole}
+use Rattle.stream.specs.OnePass.{Bytes, acceptedCalls, left, OnePass, Claim as TheClaim}
 use Rattle.stream.proofs.States.{bad-late, row-ready, drain-ready}
 use Rattle.stream.proofs.Yield.{Honest, row-yielded, cells-length, cells-honest, entering-row, entering-black, start-honest}
 
@@ -42,8 +42,8 @@ out-of : Call → List ℕ
 out-of (aRow pixels out) = out
 out-of (aDrain out) = out
 
-answer-is : (c : Call) (s : State) (cells : List ℕ) → answer c s cells ≡ answers (checks c s cells) s (pixels-of c) (out-of c) cells
-unfolding answer push drain checks pixels-of out-of
+answer-is : (c : Call) (s : State) (cells : List ℕ) → answerOf c s cells ≡ answers (checks c s cells) s (pixels-of c) (out-of c) cells
+unfolding answerOf push drain checks pixels-of out-of
 answer-is (aRow pixels out) s cells = refl
 answer-is (aDrain out) s cells = refl
 
@@ -52,20 +52,20 @@ yields : Call → State → List ℕ → Called
 yields c s cells = steps s (entering (recipe (s .filter)) (s .width) (pixels-of c)) cells
 
 module _ (c : Call) (s : State) (cells : List ℕ) where
-  is-yielded : first (checks c s cells) ≡ 0 → answer c s cells ≡ yields c s cells
+  is-yielded : first (checks c s cells) ≡ 0 → answerOf c s cells ≡ yields c s cells
   unfolding answers yields
   is-yielded e = answer-is c s cells ∙ lent-accepted (checks c s cells) _ _ e
 
   refused : (n : ℕ) → first (checks c s cells) ≡ n → (n ≡ 0 → ⊥)
-      → answer c s cells ≡ record { number = first (checks c s cells); state = s; count = 0; out = out-of c; cells = cells }
+      → answerOf c s cells ≡ record { number = first (checks c s cells); state = s; count = 0; out = out-of c; cells = cells }
   unfolding answers
   refused n e h = answer-is c s cells ∙ lent-refused (checks c s cells) _ _ n e h
 
-  number-is : answer c s cells .number ≡ first (checks c s cells)
+  number-is : answerOf c s cells .number ≡ first (checks c s cells)
   unfolding yields steps
   number-is = go (first (checks c s cells)) refl
     where
-      go : (k : ℕ) → first (checks c s cells) ≡ k → answer c s cells .number ≡ first (checks c s cells)
+      go : (k : ℕ) → first (checks c s cells) ≡ k → answerOf c s cells .number ≡ first (checks c s cells)
       go zero z = ap (λ (a : Called). a .number) (is-yielded z) ∙ sym z
       go (suc k) z = ap (λ (a : Called). a .number) (refused (suc k) z (λ q. omega arith))
 
@@ -405,8 +405,8 @@ module _ (f : Filter) (p : Picture) (cells : List ℕ) (begins : first (startChe
   unfolding start
   begun = lent-accepted _ _ _ begins
 
-  runs : (calls : List Call) → accepted f p cells calls ≡ run calls (at f p 0) ready
-  unfolding accepted started ready needed
+  runs : (calls : List Call) → acceptedCalls f p cells calls ≡ run calls (at f p 0) ready
+  unfolding acceptedCalls started ready needed
   runs calls = ap (λ (b : Began). run calls (b .state) (b .cells)) begun
 
   leaves : (calls : List Call) → left f p cells calls ≡ carried calls (at f p 0) ready
@@ -446,16 +446,15 @@ module _ (f : Filter) (p : Picture) (cells : List ℕ) (begins : first (startChe
       (k .state ∙ ap (at f p) (zero-add (length ys)), le-trans (honest .enough) (le-of-eq (sym (k .size))))
 
   number-so : (calls : List Call) (c : Call) → let k = left f p cells calls in
-      answer c (k .state) (k .cells) .number ≡ first (checks c (at f p (length (accepted f p cells calls))) (carried calls (at f p 0) ready .cells))
+      answerOf c (k .state) (k .cells) .number ≡ first (checks c (at f p (length (acceptedCalls f p cells calls))) (carried calls (at f p 0) ready .cells))
   number-so calls c =
       number-is c (left f p cells calls .state) (left f p cells calls .cells)
       ∙ ap (λ (k : Carried). first (checks c (k .state) (k .cells))) (leaves calls)
       ∙ ap (λ t. first (checks c t (carried calls (at f p 0) ready .cells))) (after calls .0 ∙ ap (λ ys. at f p (length ys)) (sym (runs calls)))
 
-  -- document 01's claim about the whole list of calls
-  pub one-pass : OnePass f p cells
+  holds : OnePass f p cells
   unfolding r needed
-  one-pass =
+  holds =
       record {
         exactRows = λ small calls. subst (λ ys. rows ys ≡ tab (length (rows ys)) (pictureRow p) → outputs ys ≡ tab (length ys) (fullRow (recipe f) p)) (sym (runs calls)) (exact-so small calls);
         inTurn = λ calls. subst (λ ys. kinds ys ≡ tab (length ys) (λ k. ltb k (p .height))) (sym (runs calls)) (turn-so calls .0);
@@ -463,11 +462,11 @@ module _ (f : Filter) (p : Picture) (cells : List ℕ) (begins : first (startChe
         rowNumber =
             λ calls pixels out.
             number-so calls (aRow pixels out)
-            ∙ row-number f p (asked .0) (length (accepted f p cells calls)) (most calls) (carried calls (at f p 0) ready .cells) (after calls .1) pixels out;
+            ∙ row-number f p (asked .0) (length (acceptedCalls f p cells calls)) (most calls) (carried calls (at f p 0) ready .cells) (after calls .1) pixels out;
         drainNumber =
             λ calls out.
             number-so calls (aDrain out)
-            ∙ drain-number f p (asked .0) (length (accepted f p cells calls)) (most calls) (carried calls (at f p 0) ready .cells) (after calls .1) out;
+            ∙ drain-number f p (asked .0) (length (acceptedCalls f p cells calls)) (most calls) (carried calls (at f p 0) ready .cells) (after calls .1) out;
         allRows =
             λ small outs wide.
             let calls = whole p (order (recipe f .columns)) outs in
@@ -479,5 +478,15 @@ module _ (f : Filter) (p : Picture) (cells : List ℕ) (begins : first (startChe
             ∙ ap (λ n. tab n (fullRow (recipe f) p)) (all .many ∙ whole-length f p (asked .0) outs wide);
       }
     where
-      most : (calls : List Call) → length (accepted f p cells calls) ≤ fullHeight (recipe f) (p .height)
+      most : (calls : List Call) → length (acceptedCalls f p cells calls) ≤ fullHeight (recipe f) (p .height)
       most calls = subst (λ ys. length ys ≤ fullHeight (recipe f) (p .height)) (sym (runs calls)) (turn-so calls .1)
+
+-- document 01's claim about the whole list of calls
+pub one-pass : TheClaim
+unfolding start
+one-pass f p cells z = holds f p cells (go (first (startChecks (recipe f) (p .width) (p .height) (length cells))) refl)
+  where
+    go : (k : ℕ) → first (startChecks (recipe f) (p .width) (p .height) (length cells)) ≡ k
+        → first (startChecks (recipe f) (p .width) (p .height) (length cells)) ≡ 0
+    go zero e = e
+    go (suc k) e = sym (ap (λ (b : Began). b .number) (lent-refused _ _ _ (suc k) e (λ q. omega arith))) ∙ z

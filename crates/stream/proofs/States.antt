@@ -12,7 +12,7 @@ use Rattle.spec.specs.Picture.{fullWidth, fullHeight}
 use Rattle.spec.specs.Stream.{State, streamCells}
 use Rattle.spec.specs.Refusals.{Check, check, first, tooLong, zeroWidth, tooFar, tooHeavy, badSide, badSides, badState, rowNotDue, drainNotDue, otherPixels, otherOutput, tooFewCells, recipeChecks, sizeChecks, cellChecks, rowChecks, drainChecks}
 use Rattle.laws.proofs.Refusals.{none-both, first-none, first-then, neither, recipe-numbered, same-length-so, is-sized}
-use Rattle.stream.specs.Sizes.{Ready}
+use Rattle.stream.specs.Private.{Ready}
 
 -- a width that is accepted with a height is accepted alone
 pub size-cells : (r : Recipe) (w h : ℕ) → first (sizeChecks r w h) ≡ 0 → first (cellChecks r w) ≡ 0

@@ -16,7 +16,7 @@ use Rattle.laws.proofs.Lists.{length-tab, getD-tab, getD-tab-past, tab-agree, t
 use Rattle.laws.proofs.Kernels.{at, holds-tab}
 use Rattle.laws.proofs.Cascades.{cascaded}
 use Rattle.laws.proofs.Exact.{pixel-right, pixel-below, pixel-inside, line, exact-cascaded, exact-small, pixel-small, rows-pos, columns-pos}
-use Rattle.stream.specs.Stages.{Worked, rowStage, columnStage, stages, across, down, worked, entering}
+use Rattle.stream.specs.Stages.{Worked, rowStage, columnStage, stages, along, down, worked, entering}
 use Rattle.stream.specs.Runs.{pictureRow}
 use Rattle.stream.proofs.Left.{stages-keep}
 use Rattle.stream.proofs.Honest.{Follows, KeptAll, row-keeps, column-keeps, rows-follow, columns-follow, zeros-kept}
@@ -46,7 +46,7 @@ module _ (r : Recipe) (p : Picture) where
   -- any row and any cells keep their lengths
   pub cells-length : (e : ℕ) (row cells : List ℕ) → length row ≡ W → streamCells r (p .width) ≤ length cells
       → length (worked r e row cells .cells) ≡ length cells
-  unfolding worked across down cascadeCells
+  unfolding worked along down cascadeCells
   cells-length e row cells l h =
       let rc = total boxCells (r .rows) in
       let room = needed cells h in
@@ -77,11 +77,11 @@ module _ (r : Recipe) (p : Picture) where
 
     module _ (e : ℕ) (row cells : List ℕ) (is : row ≡ tab W (line p e)) (h : Honest e cells) where
       first : Worked
-      first = across r row cells
+      first = along r row cells
 
-      along : Follows W (passed e) (first .row) × (length (first .cells) ≡ cascadeCells (r .rows))
-      unfolding across cascadeCells first passed
-      along =
+      rows-through : Follows W (passed e) (first .row) × (length (first .cells) ≡ cascadeCells (r .rows))
+      unfolding along cascadeCells first passed
+      rows-through =
           let rc = total boxCells (r .rows) in
           let size : length (take rc cells) ≡ rc = length-take-le rc cells (needed cells (h .enough) .0) in
           let both = rows-follow W (r .rows) (line p e) row (take rc cells) (rows-pos r p pos) size (entered e row is) in
@@ -96,10 +96,10 @@ module _ (r : Recipe) (p : Picture) where
       downwards =
           let back = drop (cascadeCells (r .rows)) cells in
           let made =
-          columns-follow W (r .columns) passed e (first .row) back (columns-pos r p pos) (needed cells (h .enough) .1) (along .0) (h .kept) in
+          columns-follow W (r .columns) passed e (first .row) back (columns-pos r p pos) (needed cells (h .enough) .1) (rows-through .0) (h .kept) in
           let same : stages (λ n. W * boxCells n) (columnStage e) (r .columns) (first .row) back
           ≡ stages (λ n. length (first .row) * boxCells n) (columnStage e) (r .columns) (first .row) back =
-          ap (λ w. stages (λ n. w * boxCells n) (columnStage e) (r .columns) (first .row) back) (sym (along .0 .wide)) in
+          ap (λ w. stages (λ n. w * boxCells n) (columnStage e) (r .columns) (first .row) back) (sym (rows-through .0 .wide)) in
           let ends = subst (λ (x : Worked). Follows W (λ i. cascaded 1 (r .columns) (λ j. passed j i) e) (x .row)) same (made .0) in (
             record { wide = ends .wide; values = λ k l. ends .values k l ∙ ap (λ x. x % 2 ^ 64) (sym (exact-cascaded r p pos k e)) },
             subst (λ (x : Worked). KeptAll W (r .columns) passed (e + 1) (x .cells)) same (made .1),
@@ -118,7 +118,7 @@ module _ (r : Recipe) (p : Picture) where
       unfolding worked first second
       cells-honest =
           let left : drop (cascadeCells (r .rows)) (first .cells ++ second .cells) ≡ second .cells =
-          ap (λ n. drop n (first .cells ++ second .cells)) (sym (along .1)) ∙ drop-append-seam (first .cells) (second .cells) in
+          ap (λ n. drop n (first .cells ++ second .cells)) (sym (rows-through .1)) ∙ drop-append-seam (first .cells) (second .cells) in
           record {
             enough = le-trans (h .enough) (le-of-eq (sym (cells-length e row cells (ap length is ∙ length-tab W (line p e)) (h .enough))));
             kept = subst (KeptAll W (r .columns) passed (e + 1)) (sym left) (downwards .1);

@@ -5,7 +5,7 @@ use lib.ListN.{length, drop, replicate}
 use Rattle.spec.specs.declared.Cascade.{Cascade}
 use Rattle.spec.specs.declared.Filter.{Filter}
 use Rattle.spec.specs.Recipe.{recipe}
-use Rattle.spec.specs.Stream.{State as StateOf, streamCells, rowCost}
+use Rattle.spec.specs.Stream.{State as SpecState, streamCells, rowCost}
 use Rattle.spec.specs.Refusals.{Check, first, lent, startChecks, rowChecks, drainChecks}
 use Rattle.stream.specs.declared.calls.State.{State}
 use Rattle.stream.specs.declared.calls.Started.{Started}
@@ -13,7 +13,7 @@ use Rattle.stream.specs.declared.calls.Stepped.{Stepped}
 use Rattle.stream.specs.Stages.{worked, entering}
 
 -- the state that a struct holds
-unfoldable pub stateOf : State → StateOf
+unfoldable pub stateOf : State → SpecState
 stateOf s = record { recipe = recipe (s .filter); width = s .width; height = s .height; emitted = s .emitted }
 
 -- ---- the start

@@ -2,4 +2,4 @@ pub mod Stages
 pub mod Calls
 pub mod Runs
 pub mod OnePass
-pub mod Sizes
+pub mod Private

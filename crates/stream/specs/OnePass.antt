@@ -11,15 +11,15 @@ use Rattle.spec.specs.Recipe.{recipe, order}
 use Rattle.spec.specs.Picture.{Picture, fullWidth, fullHeight, fullRow}
 use Rattle.spec.specs.Refusals.{check, first, otherPixels, otherOutput}
 use Rattle.stream.specs.Calls.{start}
-use Rattle.stream.specs.Runs.{Call, aRow, aDrain, answer, Yielded, run, Carried, carried, rows, outputs, kinds, pictureRow, whole}
+use Rattle.stream.specs.Runs.{Call, aRow, aDrain, answerOf, Yielded, run, Carried, carried, rows, outputs, kinds, pictureRow, whole}
 
 -- pixels are bytes
 abbrev pub Bytes : Picture → Type 0
 Bytes p = (k : ℕ) → getD (p .pixels) k 0 ≤ 255
 
 -- the accepted calls of a list, and what the list leaves, after a start of a recipe and a picture's sides with any cells
-unfoldable pub accepted : Filter → Picture → List ℕ → List Call → List Yielded
-accepted f p cells calls =
+unfoldable pub acceptedCalls : Filter → Picture → List ℕ → List Call → List Yielded
+acceptedCalls f p cells calls =
     let s = start f (p .width) (p .height) cells in
     run calls (s .state) (s .cells)
 
@@ -32,21 +32,25 @@ pub record OnePass (f : Filter) (p : Picture) (cells : List ℕ) : Type 0 where
   -- The k-th accepted call leaves in its output grown row k - 1 of the exact sums, for every list of calls, refused ones included, and
   -- every picture whose first rows, in order, are those of the accepted row calls.
   pub exactRows : Bytes p → (calls : List Call)
-      → rows (accepted f p cells calls) ≡ tab (length (rows (accepted f p cells calls))) (pictureRow p)
-      → outputs (accepted f p cells calls) ≡ tab (length (accepted f p cells calls)) (fullRow (recipe f) p)
+      → rows (acceptedCalls f p cells calls) ≡ tab (length (rows (acceptedCalls f p cells calls))) (pictureRow p)
+      → outputs (acceptedCalls f p cells calls) ≡ tab (length (acceptedCalls f p cells calls)) (fullRow (recipe f) p)
   -- Row calls are accepted first, as many as the picture has rows, then drains, and nothing after the last grown row.
-  pub inTurn : (calls : List Call) → kinds (accepted f p cells calls) ≡ tab (length (accepted f p cells calls)) (λ k. ltb k (p .height))
-  pub atMost : (calls : List Call) → length (accepted f p cells calls) ≤ fullHeight (recipe f) (p .height)
+  pub inTurn : (calls : List Call) → kinds (acceptedCalls f p cells calls) ≡ tab (length (acceptedCalls f p cells calls)) (λ k. ltb k (p .height))
+  pub atMost : (calls : List Call) → length (acceptedCalls f p cells calls) ≤ fullHeight (recipe f) (p .height)
   -- The number of the next call, after any list of calls: 10 goes by how many were accepted, 6 and 7 by the lengths of its slices, and no
   -- other number comes.
   pub rowNumber : (calls : List Call) (pixels out : List ℕ)
-      → answer (aRow pixels out) (left f p cells calls .state) (left f p cells calls .cells) .number
-      ≡ first (check (leb (p .height) (length (accepted f p cells calls))) 10 ∷ check (otherPixels (length pixels) (p .width)) 6
+      → answerOf (aRow pixels out) (left f p cells calls .state) (left f p cells calls .cells) .number
+      ≡ first (check (leb (p .height) (length (acceptedCalls f p cells calls))) 10 ∷ check (otherPixels (length pixels) (p .width)) 6
       ∷ check (otherOutput (length out) (fullWidth (recipe f) (p .width))) 7 ∷ [])
   pub drainNumber : (calls : List Call) (out : List ℕ)
-      → answer (aDrain out) (left f p cells calls .state) (left f p cells calls .cells) .number
-      ≡ first (check (ltb (length (accepted f p cells calls)) (p .height) || leb (fullHeight (recipe f) (p .height)) (length (accepted f p cells calls))) 10
+      → answerOf (aDrain out) (left f p cells calls .state) (left f p cells calls .cells) .number
+      ≡ first (check (ltb (length (acceptedCalls f p cells calls)) (p .height) || leb (fullHeight (recipe f) (p .height)) (length (acceptedCalls f p cells calls))) 10
       ∷ check (otherOutput (length out) (fullWidth (recipe f) (p .width))) 7 ∷ [])
   -- All rows of the picture and then ry drains, with outputs of the grown width, yield all grown rows.
   pub allRows : Bytes p → (outs : ℕ → List ℕ) → ((k : ℕ) → length (outs k) ≡ fullWidth (recipe f) (p .width))
-      → outputs (accepted f p cells (whole p (order (recipe f .columns)) outs)) ≡ tab (fullHeight (recipe f) (p .height)) (fullRow (recipe f) p)
+      → outputs (acceptedCalls f p cells (whole p (order (recipe f .columns)) outs)) ≡ tab (fullHeight (recipe f) (p .height)) (fullRow (recipe f) p)
+
+-- The claim: so it is after every accepted start, with any lent cells.
+abbrev pub Claim : Type 0
+Claim = (f : Filter) (p : Picture) (cells : List ℕ) → start f (p .width) (p .height) cells .number ≡ 0 → OnePass f p cells

@@ -15,9 +15,9 @@ pub data Call : Type 0 where
   aDrain : (out : List ℕ) → Call
 
 -- the call's answer, as its contract has it
-unfoldable pub answer : Call → State → List ℕ → Called
-answer (aRow pixels out) s cells = push s pixels out cells
-answer (aDrain out) s cells = drain s out cells
+unfoldable pub answerOf : Call → State → List ℕ → Called
+answerOf (aRow pixels out) s cells = push s pixels out cells
+answerOf (aDrain out) s cells = drain s out cells
 
 -- an accepted call, and its output as it stands on return
 pub record Yielded : Type 0 where
@@ -28,7 +28,7 @@ pub record Yielded : Type 0 where
 unfoldable pub run : List Call → State → List ℕ → List Yielded
 run [] s cells = []
 run (c ∷ cs) s cells =
-    let a = answer c s cells in
+    let a = answerOf c s cells in
     let rest = run cs (a .state) (a .cells) in
     either (a .number) (record { call = c; out = a .out } ∷ rest) rest
 
@@ -40,7 +40,7 @@ pub record Carried : Type 0 where
 unfoldable pub carried : List Call → State → List ℕ → Carried
 carried [] s cells = record { state = s; cells = cells }
 carried (c ∷ cs) s cells =
-    let a = answer c s cells in
+    let a = answerOf c s cells in
     carried cs (a .state) (a .cells)
 
 -- the pixel slices of the accepted row calls, in order

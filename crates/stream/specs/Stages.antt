@@ -22,7 +22,8 @@ pub record Worked : Type 0 where
   pub row : List ℕ
   pub cells : List ℕ
 
--- A ring of n running totals: of how many values the total in place p is, after k values. Value k goes into place k % n.
+-- A ring of n running totals, after k values: how many values the total in place p adds up, 0 for a place that none has reached. Value
+-- k goes into place k % n.
 unfoldable pub covered : ℕ → ℕ → ℕ → ℕ
 covered n k p = k / n * n + suc p - cond (ltb p (k % n)) 0 n
 
@@ -46,11 +47,12 @@ rowStage n row own = cond (ltb n 2) (record { row = row; cells = own }) (record 
 unfoldable pub columnPair : List ℕ → List ℕ → Worked
 columnPair row own = record { row = tab (length row) (λ i. plus (getD row i 0) (getD own i 0)); cells = row }
 
--- wider: n slots of one cell for each column, a ring of running totals: the total up to the previous row stands in the slot before, and
--- the oldest gives way to the total with this row
+-- wider: n slots of one cell for each column, a ring of running totals. This row goes into slot e % n, where the oldest total stands; the
+-- total up to the previous row stands in the slot before it.
 unfoldable pub slotBefore : ℕ → ℕ → ℕ
 slotBefore n e = cond (eqb (e % n) 0) (n - 1) (e % n - 1)
 
+-- the total with this row, and what the stage makes, by the first cells of the two slots
 unfoldable pub slotTotal : ℕ → List ℕ → List ℕ → ℕ → ℕ
 slotTotal before row own i = plus (getD own (before + i) 0) (getD row i 0)
 
@@ -77,17 +79,17 @@ stages size stage (n ∷ ns) row cells =
     record { row = rest .row; cells = own .cells ++ rest .cells }
 
 -- the row list, then the column list, at the row after e others
-unfoldable pub across : Recipe → List ℕ → List ℕ → Worked
-across r row cells = stages boxCells rowStage (r .rows) row (take (cascadeCells (r .rows)) cells)
+unfoldable pub along : Recipe → List ℕ → List ℕ → Worked
+along r row cells = stages boxCells rowStage (r .rows) row (take (cascadeCells (r .rows)) cells)
 
 unfoldable pub down : Recipe → ℕ → List ℕ → List ℕ → Worked
 down r e row cells = stages (λ n. length row * boxCells n) (columnStage e) (r .columns) row (drop (cascadeCells (r .rows)) cells)
 
 unfoldable pub worked : Recipe → ℕ → List ℕ → List ℕ → Worked
 worked r e row cells =
-    let first = across r row cells in
-    let second = down r e (first .row) cells in
-    record { row = second .row; cells = first .cells ++ second .cells }
+    let rowsDone = along r row cells in
+    let columnsDone = down r e (rowsDone .row) cells in
+    record { row = columnsDone .row; cells = rowsDone .cells ++ columnsDone .cells }
 
 -- the row that goes through the stages: the pixels given, and then rx black places
 unfoldable pub entering : Recipe → ℕ → List ℕ → List ℕ

@@ -9,7 +9,7 @@ ghost use Rattle.spec.specs.Words.{tab};
 ghost use Rattle.spec.specs.Recipe.{recipe};
 ghost use Rattle.spec.specs.Refusals.{check, first, otherOutput, tooFewCells, rowChecks, drainChecks};
 ghost use Rattle.stream.specs.Calls.{stateOf, began, zeros, start as startOf, called, steps, push as pushOf, drain as drainOf};
-ghost use Rattle.stream.specs.Sizes.{Sized, Gauged, Ready};
+ghost use Rattle.stream.specs.Private.{Sized, Gauged, Ready};
 use crate::cascades::work;
 use crate::stages::clear;
 use filter::Cells;
@@ -61,7 +61,7 @@ fn no_sizes(number: u8) -> Sizes
 }
 
 // The sizes for a recipe and the sides of a picture: refused by 1 to 5.
-fn measure(filter: Filter, width: usize, height: usize) -> Sizes
+fn sizes_of(filter: Filter, width: usize, height: usize) -> Sizes
     ensures { λ r. ⌜ Sized (recipe filter) width height r ⌝ }
 {
     let size = full_size(filter, width, height);
@@ -87,7 +87,7 @@ fn measure(filter: Filter, width: usize, height: usize) -> Sizes
 fn gauge(state: State) -> Sizes
     ensures { λ r. ⌜ Gauged (stateOf state) r ⌝ }
 {
-    let sizes = measure(state.filter, state.width, state.height);
+    let sizes = sizes_of(state.filter, state.width, state.height);
     if sizes.refusal != 0 {
         return no_sizes(9);
     }
@@ -115,8 +115,9 @@ fn row_refusal(state: State, pixels: usize, out: usize, cells: usize) -> u8
     ensures { λ r. ⌜ r ≡ first (rowChecks (stateOf state) pixels out cells) ⌝ }
 {
     let sizes = gauge(state);
-    if sizes.refusal != 0 {
-        return 9;
+    let number = sizes.refusal;
+    if number != 0 {
+        return number;
     }
     if state.height <= state.emitted {
         return 10;
@@ -132,8 +133,9 @@ fn drain_refusal(state: State, out: usize, cells: usize) -> u8
     ensures { λ r. ⌜ r ≡ first (drainChecks (stateOf state) out cells) ⌝ }
 {
     let sizes = gauge(state);
-    if sizes.refusal != 0 {
-        return 9;
+    let number = sizes.refusal;
+    if number != 0 {
+        return number;
     }
     if state.emitted < state.height {
         return 10;
@@ -200,7 +202,7 @@ fn no_start(number: u8) -> Started
 pub fn start(filter: Filter, width: usize, height: usize, cells: &mut [u64]) -> Started
     ensures { λ r. ⌜ began r (now (cells .exit)) ≡ startOf filter width height (now (cells .entry)) ⌝ }
 {
-    let sizes = measure(filter, width, height);
+    let sizes = sizes_of(filter, width, height);
     let number = sizes.refusal;
     if number != 0 {
         return no_start(number);

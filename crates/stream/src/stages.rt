@@ -20,7 +20,8 @@ pub(crate) fn clear(cells: &mut [u64])
     }
 }
 
-// Width 2 along a row: to each value the one before it, which the cell keeps.
+// Width 2 along a row: to each value the one before it. The cell is left with the last value; the next
+// row starts from 0 and does not read it.
 fn row_pair(row: &mut [u64], own: &mut [u64])
     requires { ⌜ (0 < length (now row)) × (length (now own) ≡ 1) ⌝ }
     ensures { λ r. ⌜ (now (row .exit) ≡ rowBoxed 2 (now (row .entry)))

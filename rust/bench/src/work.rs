@@ -112,15 +112,17 @@ impl Work {
     }
 
     pub fn stream(&mut self) {
-        let mut state = State {
-            filter: self.filter(),
-            width: self.width,
-            height: self.height,
-            emitted: 0,
-        };
+        let filter = self.filter();
         let full_width = self.full_width();
         let cells = &mut self.cells;
-        assert_eq!(bore::start(&mut state, cells), 0, "the start is accepted");
+        let mut state = State {
+            filter,
+            width: 0,
+            height: 0,
+            emitted: 0,
+        };
+        let number = bore::start(&filter, self.width, self.height, cells, &mut state);
+        assert_eq!(number, 0, "the start is accepted");
         let mut rows = self.pixels.chunks_exact(self.width);
         let mut count = 0;
         for out in self.out.chunks_exact_mut(full_width) {

@@ -148,11 +148,17 @@ pub fn passes(
     raw::passes(filter, width, height, pixels, out, cells)
 }
 
-/// Starts the stream: reads the filter and the sides of `state`, sets the
-/// needed cells to zero and leaves the started state, or after a refusal a
-/// state of zeros; refusals 1 to 5, then 8.
-pub fn start(state: &mut State, cells: &mut [u64]) -> u8 {
-    raw::start(state, cells)
+/// Starts the stream for a filter and a picture of these sides: sets the needed
+/// cells to zero. Whatever `state` holds, it becomes the started state, or after
+/// a refusal a state of zeros; refusals 1 to 5, then 8.
+pub fn start(
+    filter: &Filter,
+    width: usize,
+    height: usize,
+    cells: &mut [u64],
+    state: &mut State,
+) -> u8 {
+    raw::start(filter, width, height, cells, state)
 }
 
 /// Gives the stream the next picture row and takes one grown row from it.

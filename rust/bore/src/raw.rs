@@ -85,15 +85,21 @@ unsafe extern "C" {
     ) -> u8;
 
     fn bore_start(
-        row_count: &mut u8,
-        rows: &mut [u8; 48],
-        column_count: &mut u8,
-        columns: &mut [u8; 48],
-        width: &mut usize,
-        height: &mut usize,
-        emitted: &mut usize,
+        row_count: u8,
+        rows: &[u8; 48],
+        column_count: u8,
+        columns: &[u8; 48],
+        width: usize,
+        height: usize,
         cells: *mut u64,
         cells_len: usize,
+        state_row_count: &mut u8,
+        state_rows: &mut [u8; 48],
+        state_column_count: &mut u8,
+        state_columns: &mut [u8; 48],
+        state_width: &mut usize,
+        state_height: &mut usize,
+        emitted: &mut usize,
     ) -> u8;
 
     fn bore_push(
@@ -194,11 +200,25 @@ pub fn passes(
     }
 }
 
-pub fn start(state: &mut State, cells: &mut [u64]) -> u8 {
+pub fn start(
+    filter: &Filter,
+    width: usize,
+    height: usize,
+    cells: &mut [u64],
+    state: &mut State,
+) -> u8 {
     // SAFETY: the pointer and the length are those of one slice, which is lent
     // to this call alone.
     unsafe {
         bore_start(
+            filter.rows.count,
+            &filter.rows.widths,
+            filter.columns.count,
+            &filter.columns.widths,
+            width,
+            height,
+            cells.as_mut_ptr(),
+            cells.len(),
             &mut state.filter.rows.count,
             &mut state.filter.rows.widths,
             &mut state.filter.columns.count,
@@ -206,8 +226,6 @@ pub fn start(state: &mut State, cells: &mut [u64]) -> u8 {
             &mut state.width,
             &mut state.height,
             &mut state.emitted,
-            cells.as_mut_ptr(),
-            cells.len(),
         )
     }
 }

@@ -1,7 +1,7 @@
-//! The one pass beside the reference: starts, whole lists of row calls and
-//! drains with refused ones among them, damaged states and altered cells.
-//! BORE_CASES and BORE_SEED set the random cases as they do for the calls on a
-//! filter.
+//! The one pass beside the reference and the model of the cells: starts, whole
+//! lists of row calls and drains with refused ones among them, damaged states
+//! and altered cells. BORE_CASES and BORE_SEED set the random cases as they do
+//! for the calls on a filter.
 
 mod common;
 
@@ -12,10 +12,11 @@ use common::pictures::{accepted_sides, any_cells, any_length, any_sides};
 use common::pictures::{picture_case, refused_side};
 use common::{damage, each_seed, recipe_of, refilled, Case};
 use reference::random::Random;
+use reference::Recipe;
 
 /// How often each number is met by starts, row calls and drains, each limit by
-/// lists in which every grown row was yielded, and each field as the only cause
-/// of a 9.
+/// lists in which every grown row was yielded, each field as the only cause of
+/// a 9, and each kind of stage by accepted calls.
 #[derive(Debug, Default)]
 struct Met {
     start: [usize; 11],
@@ -23,6 +24,7 @@ struct Met {
     drain: [usize; 11],
     limits: [usize; 12],
     causes: [usize; 4],
+    stages: [usize; 7],
 }
 
 impl Met {
@@ -50,6 +52,26 @@ impl Met {
                 self.causes[3] += usize::from(state.emitted > all);
             }
             _ => (),
+        }
+    }
+
+    /// The stages that an accepted call on this state goes through.
+    fn stages(&mut self, state: &State) {
+        let Recipe { rows, columns } = recipe_of(&state.filter);
+        let e = state.emitted;
+        let ring = |at: &dyn Fn(usize) -> bool| columns.iter().any(|&n| n > 2 && at(n.into()));
+        let met = [
+            rows.contains(&2),
+            rows.iter().any(|&n| n > 2),
+            columns.contains(&2),
+            // The first row, one of the first n, one after them, a drain.
+            ring(&|_| e == 0),
+            ring(&|n| 0 < e && e < n),
+            ring(&|n| e >= n),
+            ring(&|_| e >= state.height),
+        ];
+        for (count, met) in self.stages.iter_mut().zip(met) {
+            *count += usize::from(met);
         }
     }
 
@@ -109,7 +131,8 @@ fn any_call(random: &mut Random, state: &State, cells: usize) -> Call {
 }
 
 /// One random start, then calls until all rows are out, and a few more. Where
-/// `altered`, the cells are changed between the calls and no sums are promised.
+/// `altered`, the cells are changed between the calls, and the sums are those
+/// of the model alone.
 fn list_of_calls(seed: u64, altered: bool, met: &mut Met) {
     let (case, mut random) = picture_case(seed);
     let random = &mut random;
@@ -231,6 +254,9 @@ fn call_on_any_state(seed: u64, met: &mut Met) {
     let number = run.call(random, &mut without_sums(), &call, note);
     met.called(&call, number);
     met.cause(&state);
+    if number == 0 {
+        met.stages(&state);
+    }
 }
 
 #[test]
@@ -278,64 +304,6 @@ fn is_refused(state: &State, call: &Call) -> bool {
     result.is_err()
 }
 
-/// What an accepted call leaves in its output and in the cells.
-fn left(state: &State, pixels: &[u8], cells: &[u64]) -> [Vec<u64>; 2] {
-    let mut state = *state;
-    let mut cells = cells.to_vec();
-    let full_width = state.width + reference::reach(&recipe_of(&state.filter).rows);
-    let mut out = vec![7; full_width];
-    let mut count = 0;
-    let number = if state.emitted < state.height {
-        bore::push(&mut state, pixels, &mut out, &mut cells, &mut count)
-    } else {
-        bore::drain(&mut state, &mut out, &mut cells, &mut count)
-    };
-    assert_eq!(number, 0, "{state:?}");
-    [out, cells]
-}
-
-/// Cells are added and subtracted modulo 2^64: whatever they hold, the sum of
-/// two rows on the sum of two sets of cells leaves the sum of what each of them
-/// leaves.
-#[test]
-fn calls_are_linear_on_any_cells() {
-    each_seed(5, |seed| {
-        let (case, mut random) = picture_case(seed);
-        let random = &mut random;
-        let (width, height) = accepted_sides(random, &case.recipe());
-        let Ok(sides) = reference::grown_sides(&case.recipe(), width, height) else {
-            return;
-        };
-        let state = State {
-            filter: case.filter,
-            width,
-            height,
-            emitted: random.between(0, sides.1 - 1),
-        };
-        let needed = needed(random, &case, width);
-        let mut p = random.pixels(width);
-        let mut q = random.pixels(width);
-        for pixel in p.iter_mut().chain(&mut q) {
-            *pixel /= 2;
-        }
-        let pixels: Vec<u8> = p.iter().zip(&q).map(|(a, b)| a + b).collect();
-        let c: Vec<u64> = (0..needed).map(|_| random.word()).collect();
-        let d: Vec<u64> = (0..needed).map(|_| random.word()).collect();
-        let first = left(&state, &p, &c);
-        let second = left(&state, &q, &d);
-        let both = left(&state, &pixels, &sum(&c, &d));
-        for (part, what) in ["output", "cells"].into_iter().enumerate() {
-            let expected = sum(&first[part], &second[part]);
-            assert_eq!(both[part], expected, "{what}, {state:?}, {case:?}");
-        }
-    });
-}
-
-/// Two equally long lists of words, added modulo 2^64.
-fn sum(a: &[u64], b: &[u64]) -> Vec<u64> {
-    a.iter().zip(b).map(|(a, b)| a.wrapping_add(*b)).collect()
-}
-
 /// Whether just these numbers were met, each of them ten times or more.
 fn meets(counts: &[usize], numbers: &[usize]) -> bool {
     let rightly = |(number, &count): (usize, &usize)| match numbers.contains(&number) {
@@ -356,6 +324,7 @@ fn random_cases_meet_every_number_and_limit() {
     assert!(meets(&lists.start, &[0, 1, 2, 3, 4, 5, 8]), "{lists:?}");
     assert!(lists.limits.iter().all(|&n| n >= 10), "{lists:?}");
     assert!(lone.causes.iter().all(|&n| n >= 10), "{lone:?}");
+    assert!(lone.stages.iter().all(|&n| n >= 10), "{lone:?}");
     for met in [lists, lone] {
         assert!(meets(&met.row, &[0, 6, 7, 8, 9, 10]), "{met:?}");
         assert!(meets(&met.drain, &[0, 7, 8, 9, 10]), "{met:?}");

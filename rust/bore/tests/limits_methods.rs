@@ -8,7 +8,7 @@ use common::agree_methods::{direct, passes};
 use common::agree_stream::{start, without_sums, Call, Run};
 use common::lent::Lent;
 use common::pictures::Picture;
-use common::{filter, from_bits, refilled, with_refusals, Case};
+use common::{any_state, filter, from_bits, refilled, with_refusals, Case};
 use reference::random::Random;
 
 /// Rows 2,3 and columns 2,2. On a picture 5 by 3: R has 4 numbers, C has 3, a
@@ -304,11 +304,9 @@ fn refused_states_get_9() {
         (&[], &[255, 3]),
         (&[2; 23], &[2; 22]),
     ] {
-        let filter = filter(rows, columns);
-        states.push(State {
-            filter,
-            ..yielded(0)
-        });
+        let mut state = yielded(0);
+        state.filter = filter(rows, columns);
+        states.push(state);
     }
     for (row_count, column_count) in [(49, 2), (2, 49), (255, 255)] {
         let mut state = yielded(0);
@@ -383,6 +381,7 @@ fn calls_after_a_refused_start_get_9() {
 /// costs 0, width 2 costs 1, wider costs 2. A refused call counts 0.
 #[test]
 fn counts() {
+    let mut random = Random::new(11);
     for (rows, columns, width, count) in [
         (&[2, 3][..], &[2, 2][..], 5, 40),
         (&[], &[2], 5, 5),
@@ -393,15 +392,10 @@ fn counts() {
         (&[2; 22], &[2; 22], 1, 23 * 44),
     ] {
         let filter = filter(rows, columns);
-        let mut state = State {
-            filter,
-            width,
-            height: 1,
-            emitted: 0,
-        };
+        let mut state = any_state(&mut random);
         let mut cells = vec![0; 400_000];
         let mut out = vec![0; width + reference::reach(rows)];
-        assert_eq!(bore::start(&mut state, &mut cells), 0);
+        assert_eq!(bore::start(&filter, width, 1, &mut cells, &mut state), 0);
         let mut found = 7;
         let pixels = vec![255; width];
         assert_eq!(
@@ -422,22 +416,46 @@ fn counts() {
 /// A start sets the needed cells to zero and no other, whatever they held.
 #[test]
 fn start_sets_just_the_needed_cells() {
+    let mut state = any_state(&mut Random::new(12));
     for more in [0, 1, 100] {
         let mut cells = vec![9; 20 + more];
-        let mut state = yielded(usize::MAX);
-        assert_eq!(bore::start(&mut state, &mut cells), 0);
+        assert_eq!(bore::start(&both(), 5, 3, &mut cells, &mut state), 0);
         assert_eq!(state, yielded(0));
         assert_eq!(cells[..20], [0; 20]);
         assert_eq!(cells[20..], vec![9; more]);
     }
+    let ones = filter(&[1; 48], &[1; 48]);
     let mut cells = [9; 3];
-    let mut state = State {
-        filter: filter(&[1; 48], &[1; 48]),
-        width: 1024,
-        height: 1024,
-        emitted: 0,
-    };
-    assert_eq!(bore::start(&mut state, &mut cells), 0);
+    assert_eq!(bore::start(&ones, 1024, 1024, &mut cells, &mut state), 0);
     assert_eq!(cells, [9; 3]);
-    assert_eq!(bore::start(&mut state, &mut []), 0);
+    assert_eq!(bore::start(&ones, 1024, 1024, &mut [], &mut state), 0);
+}
+
+/// The page's drawing of the cells: rows 2,3 and columns 2,4 on a picture 3
+/// wide, whose grown rows are 6 wide. The third call has column 4's slot 2 to
+/// write and finds the last totals in slot 1.
+#[test]
+fn cells_stand_as_drawn() {
+    let filter = filter(&[2, 3], &[2, 4]);
+    let mut state = State {
+        filter,
+        width: 3,
+        height: 9,
+        emitted: 2,
+    };
+    let mut cells: Vec<u64> = (1000..1034).collect();
+    let mut out = [0; 6];
+    let mut count = 0;
+    let number = bore::push(&mut state, &[1, 2, 3], &mut out, &mut cells, &mut count);
+    assert_eq!(number, 0);
+    // Row 2 makes 1 3 5 3 0 0 of the pixels, row 3 then 1 4 9 11 8 3.
+    let mut expected: Vec<u64> = (1000..1034).collect();
+    expected[0] = 0;
+    expected[1..4].copy_from_slice(&[12, 12, 12]);
+    expected[4..10].copy_from_slice(&[1, 4, 9, 11, 8, 3]);
+    // Column 2 adds 1004 to 1009; column 4 adds 1016 to 1021.
+    expected[22..28].copy_from_slice(&[2021, 2026, 2033, 2037, 2036, 2033]);
+    assert_eq!(cells, expected);
+    // The totals less 1022 to 1027.
+    assert_eq!(out, [999, 1003, 1009, 1012, 1010, 1006]);
 }

@@ -2,7 +2,7 @@
 -- Assumes nothing.
 use Rattle.stream.specs.declared.calls.State.{State}
 use Rattle.stream.specs.Calls.{began as beganBy, start}
-use Rattle.bore_c.specs.Given.{began}
+use Rattle.bore_c.specs.Given.{began, givenState}
 use mathlib.Core.Path.{ap, _∙_}
 use borrow.Author.Needs.{needs}
 use Rattle.bore_c.proofs.bore_start.Statement.{statement}
@@ -21,10 +21,10 @@ same-length : tie.Need-same-length
 same-length c = search needs
 
 returns : tie.Need-returns
-unfolding began beganBy
+unfolding began beganBy givenState
 returns c =
     let a = c .before .before .before .before .before .before .before .before .before .before .start in
-    let old = c .before .before .before .before .before .before .before .before .before .before .before .before .before .before .before .before .before .before .before .before .before .args .cells .now in
+    let old = c .before .before .before .before .before .before .before .before .before .before .before .before .before .before .args .cells .now in
     (λ i. record { number = a .result .refusal; state = c .store .ensures i; cells = a .last .1 .1 .1 .0 })
     ∙ a .ensures
     ∙ ap (λ (s : State). start (s .filter) (s .width) (s .height) old) (c .before .before .before .before .before .before .before .before .before .before .before .before .state-of .ensures)

@@ -25,13 +25,13 @@ kernel-requires-2 c κs = search needs
 
 -- what is known where none of 1 to 7 applies
 none : (c : tie.Else1) → let args = c .before .before .before .before .before .before .args in
-    first (checks (recipe (args .filter)) (picture (args .width) (args .height) (args .pixels .now)) (args .rows .now) (args .columns .now) (args .out .now))
+    first (checks (recipe (args .filter)) (picture (args .width) (args .height) (args .pixels .now)) (args .row-kernel .now) (args .column-kernel .now) (args .out .now))
     ≡ 0
 none c = sym (c .before .refusal .ensures) ∙ c .if1 .left
 
 called : (c : tie.Else1) → let args = c .before .before .before .before .before .before .args in
     Called (recipe (args .filter)) (picture (args .width) (args .height) (args .pixels .now))
-    (length (args .rows .now)) (length (args .columns .now)) (length (args .out .now))
+    (length (args .row-kernel .now)) (length (args .column-kernel .now)) (length (args .out .now))
 called c = is-called _ _ _ _ _ (none c)
 
 -- the slices hold R and C
@@ -43,8 +43,8 @@ filled c =
     let r = recipe (args .filter) in
     let p = picture (args .width) (args .height) (args .pixels .now) in
     let k = called (c .before .before .before .before .before .before) in (
-      filled-whole (r .rows) (args .rows .now) _ _ (rows-light r p (k .picture .recipe)) (k .rowSize) (c .before .before .before .before .kernel .ensures),
-      filled-whole (r .columns) (args .columns .now) _ _ (columns-light r p (k .picture .recipe)) (k .columnSize) (c .kernel2 .ensures),
+      filled-whole (r .rows) (args .row-kernel .now) _ _ (rows-light r p (k .picture .recipe)) (k .rowSize) (c .before .before .before .before .kernel .ensures),
+      filled-whole (r .columns) (args .column-kernel .now) _ _ (columns-light r p (k .picture .recipe)) (k .columnSize) (c .kernel2 .ensures),
     )
 
 form-requires : tie.Need-form-requires

@@ -1,10 +1,12 @@
-//! The one pass beside the reference: a start, and then calls one after another
-//! on the same work cells. Each is made for a case's filter and for the twin;
-//! number, state, count and all that was lent are compared.
+//! The one pass beside the reference and the model of the cells: a start, and
+//! then calls one after another on the same work cells. Each is made for a
+//! case's filter and for the twin; number, state, count and all that was lent
+//! are compared.
 
 use super::agree::number;
+use super::cells::after_call;
 use super::lent::Lent;
-use super::{filter, recipe_of, Case};
+use super::{any_state, filter, recipe_of, Case};
 use bore::State;
 use reference::random::Random;
 use reference::{Called, Stream};
@@ -17,6 +19,13 @@ pub struct Call {
     pub pixels: Option<Vec<u8>>,
     pub out: usize,
     pub cells: usize,
+}
+
+impl Call {
+    /// The pixels of the row; a drain has none.
+    fn pixels(&self) -> &[u8] {
+        self.pixels.as_deref().unwrap_or(&[])
+    }
 }
 
 /// A stream of the library: the states for a filter and for its twin, and the
@@ -47,7 +56,7 @@ pub fn state_of(state: &State) -> reference::State {
 }
 
 /// A stream of the reference that expects no list of calls: it gives the number
-/// and the count of a call on any state, and no sums.
+/// and the count of a call on any state, and leaves the sums to the model.
 pub fn without_sums() -> Stream {
     Stream::start(&recipe_of(&zeros().filter), 0, 0, 0).stream
 }
@@ -64,9 +73,6 @@ pub fn start(
     let lent = Lent::words(random, cells_len);
     let mut cells = lent.clone();
     cells.set(&vec![0; expected.zeroed]);
-    // The rows yielded play no part in a start.
-    let any = random.word() as usize;
-    let emitted = random.one_of(&[0, 1, any, usize::MAX]);
     let states = case.both().map(|&filter| {
         let started = State {
             filter,
@@ -74,9 +80,9 @@ pub fn start(
             height,
             emitted: 0,
         };
-        let mut state = State { emitted, ..started };
+        let mut state = any_state(random);
         let mut found = lent.clone();
-        let refusal = bore::start(&mut state, found.part_mut());
+        let refusal = bore::start(&filter, width, height, found.part_mut(), &mut state);
         let note = format_args!("start of {width} by {height} with {cells_len} cells, {case:?}");
         assert_eq!(refusal, number, "{note}");
         let left = if number == 0 { started } else { zeros() };
@@ -97,6 +103,42 @@ struct Buffers {
 }
 
 impl Buffers {
+    /// Random values but for the pixels and the cells.
+    fn lent(random: &mut Random, call: &Call, cells: &Lent<u64>) -> Buffers {
+        Buffers {
+            pixels: Lent::bytes(random, call.pixels()),
+            out: Lent::words(random, call.out),
+            cells: cells.clone(),
+            count: Lent::words(random, 1),
+        }
+    }
+
+    /// What the call leaves of these: the count is the reference's, output and
+    /// cells are the model's. Where the reference has sums, both have to agree.
+    fn left(
+        &self,
+        given: &reference::State,
+        call: &Call,
+        called: &Called,
+        note: Arguments,
+    ) -> Buffers {
+        let mut left = self.clone();
+        left.count.set(&[called.count]);
+        if called.result.is_ok() {
+            let cells = &self.cells.part()[..call.cells];
+            let (out, cells) = after_call(given, call.pixels(), cells);
+            if let Some(sums) = &called.sums {
+                assert_eq!(
+                    &out, sums,
+                    "the model's sums, {call:?} on {given:?}, {note}"
+                );
+            }
+            left.out.set(&out);
+            left.cells.set(&cells);
+        }
+        left
+    }
+
     /// Makes the call and returns its number.
     fn call(&mut self, state: &mut State, call: &Call) -> u8 {
         let out = self.out.part_mut();
@@ -105,17 +147,6 @@ impl Buffers {
         match call.pixels {
             Some(_) => bore::push(state, self.pixels.part(), out, cells, count),
             None => bore::drain(state, out, cells, count),
-        }
-    }
-
-    /// Takes over what an accepted call may leave as it likes: the needed
-    /// cells, and the output where no sums are promised.
-    fn free(&mut self, found: &Buffers, called: &Called) {
-        let needed = reference::needed_cells(&called.state.recipe, called.state.w);
-        let needed = needed.expect("the state of an accepted call is accepted");
-        self.cells.set(&found.cells.part()[..needed]);
-        if called.sums.is_none() {
-            self.out.set(found.out.part());
         }
     }
 
@@ -129,7 +160,7 @@ impl Buffers {
 
 impl Run {
     /// Makes a call for both states, which have to stand for one recipe, and
-    /// compares it with the reference's. Returns the number.
+    /// compares it with the reference's and the model's. Returns the number.
     pub fn call(
         &mut self,
         random: &mut Random,
@@ -143,25 +174,15 @@ impl Run {
             None => stream.drain(&given, call.out, call.cells),
         };
         let number = number(&called.result);
-        let lent = Buffers {
-            pixels: Lent::bytes(random, call.pixels.as_deref().unwrap_or(&[])),
-            out: Lent::words(random, call.out),
-            cells: self.cells.clone(),
-            count: Lent::words(random, 1),
-        };
-        let mut left = lent.clone();
-        left.count.set(&[called.count]);
-        left.out.set(called.sums.as_deref().unwrap_or(&[]));
-        for (place, state) in self.states.iter_mut().enumerate() {
+        let lent = Buffers::lent(random, call, &self.cells);
+        let left = lent.left(&given, call, &called, note);
+        for state in &mut self.states {
             let given = *state;
             let note = format_args!("{call:?} on {given:?}, {note}");
             let mut found = lent.clone();
             assert_eq!(found.call(state, call), number, "{note}");
             let emitted = called.state.yielded;
             assert_eq!(*state, State { emitted, ..given }, "{note}");
-            if place == 0 && number == 0 {
-                left.free(&found, &called);
-            }
             found.have_to_be(&left, note);
         }
         self.cells = left.cells;

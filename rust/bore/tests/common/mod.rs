@@ -2,8 +2,8 @@
 //! filter to the reference's, many random filters near all limits, in
 //! `pictures` random pictures, and the comparison of each call with the
 //! reference: in `agree` the calls on a filter, in `agree_methods` direct and
-//! pass by pass, in `agree_stream` the one pass. `three` has all three methods
-//! for tests of the sums alone.
+//! pass by pass, in `agree_stream` the one pass, whose work cells `cells` models.
+//! `three` has all three methods for tests of the sums alone.
 //!
 //! The environment sets the random cases: BORE_CASES is their number for each
 //! test, BORE_SEED the seed of the first; each case has the next seed. A test
@@ -15,11 +15,12 @@
 pub mod agree;
 pub mod agree_methods;
 pub mod agree_stream;
+pub mod cells;
 pub mod lent;
 pub mod pictures;
 pub mod three;
 
-use bore::{Cascade, Filter};
+use bore::{Cascade, Filter, State};
 use reference::random::Random;
 use reference::Recipe;
 
@@ -169,6 +170,23 @@ pub fn any_filter(random: &mut Random) -> Filter {
         damage(random, &mut filter);
     }
     filter
+}
+
+/// A state of random values, for a call that has to write all of it.
+pub fn any_state(random: &mut Random) -> State {
+    let mut cascade = || Cascade {
+        count: random.word() as u8,
+        widths: std::array::from_fn(|_| random.word() as u8),
+    };
+    State {
+        filter: Filter {
+            rows: cascade(),
+            columns: cascade(),
+        },
+        width: random.word() as usize,
+        height: random.word() as usize,
+        emitted: random.word() as usize,
+    }
 }
 
 /// Changes the count or a byte on one axis.

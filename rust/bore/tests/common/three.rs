@@ -1,8 +1,9 @@
 //! The three methods with buffers of just the right lengths, for tests that
 //! look at the sums of a picture alone.
 
-use super::recipe_of;
-use bore::{Filter, State};
+use super::{any_state, recipe_of};
+use bore::Filter;
+use reference::random::Random;
 
 /// What stands in every buffer before a call.
 const BEFORE: u64 = 0xA5A5_A5A5_A5A5_A5A5;
@@ -46,13 +47,8 @@ fn passes(filter: &Filter, width: usize, height: usize, pixels: &[u8]) -> Sums {
 pub fn stream(filter: &Filter, width: usize, height: usize, pixels: &[u8]) -> Sums {
     let recipe = recipe_of(filter);
     let mut cells = buffer(reference::needed_cells(&recipe, width));
-    let mut state = State {
-        filter: *filter,
-        width,
-        height,
-        emitted: 0,
-    };
-    accepted(bore::start(&mut state, &mut cells))?;
+    let mut state = any_state(&mut Random::new(1));
+    accepted(bore::start(filter, width, height, &mut cells, &mut state))?;
     let mut out = buffer(reference::grown_size(&recipe, width, height));
     let mut rows = pixels.chunks(width);
     let mut count = 0;

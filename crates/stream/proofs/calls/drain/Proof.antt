@@ -1,7 +1,7 @@
 -- `stream::calls::drain` meets its contract: the checks, a black row, the stages.
 -- Assumes nothing.
 use Rattle.laws.proofs.Refusals.{lent-refused, lent-accepted}
-use Rattle.stream.specs.Sizes.{Ready}
+use Rattle.stream.specs.Private.{Ready}
 use Rattle.stream.specs.Stages.{entering}
 use Rattle.stream.specs.Calls.{stateOf, start, called, steps, answers, drain}
 use Rattle.stream.proofs.States.{drain-ready}

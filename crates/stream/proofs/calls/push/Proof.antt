@@ -2,7 +2,7 @@
 -- Assumes nothing.
 use Rattle.spec.specs.Picture.{fullWidth}
 use Rattle.laws.proofs.Refusals.{lent-refused, lent-accepted}
-use Rattle.stream.specs.Sizes.{Ready}
+use Rattle.stream.specs.Private.{Ready}
 use Rattle.stream.specs.Stages.{entering}
 use Rattle.stream.specs.Calls.{stateOf, start, called, steps, answers, push}
 use Rattle.stream.proofs.States.{row-ready}

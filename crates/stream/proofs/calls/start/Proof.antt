@@ -16,8 +16,8 @@ use borrow.Author.Needs.{needs}
 use Rattle.stream.proofs.calls.start.Statement.{statement}
 use Rattle.stream.proofs.calls.start.Tie as tie
 
-measure-requires : tie.Need-measure-requires
-measure-requires c κs = search needs
+sizes-of-requires : tie.Need-sizes-of-requires
+sizes-of-requires c κs = search needs
 
 no-start-requires : tie.Need-no-start-requires
 no-start-requires c κs = search needs
@@ -25,7 +25,7 @@ no-start-requires c κs = search needs
 returns : tie.Need-returns
 unfolding start startChecks began
 returns c =
-    let m = c .before .before .measure .ensures in
+    let m = c .before .before .sizes-of .ensures in
     let cells = c .before .before .before .before .args .cells .now in
     let none = c .no-start .ensures in
     let e = first-front _ _ _ (sym (m .number)) (c .before .if1 .taken) in
@@ -36,11 +36,11 @@ no-start-requires-2 c κs = search needs
 
 -- 8 goes by the length of the cells
 eight : (c : tie.Else1) → let a = c .before .before .before .args in
-    first (startChecks (recipe (a .filter)) (a .width) (a .height) (length (a .cells .now))) ≡ cond (ltb (length (a .cells .now)) (c .before .measure .result .cells)) 8 0
+    first (startChecks (recipe (a .filter)) (a .width) (a .height) (length (a .cells .now))) ≡ cond (ltb (length (a .cells .now)) (c .before .sizes-of .result .cells)) 8 0
 unfolding startChecks tooFewCells
 eight c =
     let a = c .before .before .before .args in
-    let m = c .before .measure .ensures in
+    let m = c .before .sizes-of .ensures in
     first-then _ _ 8 (size-numbered (recipe (a .filter)) (a .width) (a .height)) (sym (m .number) ∙ c .if1 .left)
     ∙ ap (λ n. cond (ltb (length (a .cells .now)) n) 8 0) (sym (m .told (c .if1 .left) .cells))
 
@@ -77,16 +77,16 @@ returns-3 c =
     let two = c .before .before .before .before in
     let e = two .before in
     let a = e .before .before .before .args in
-    let needed = e .before .measure .ensures .told (e .if1 .left) .cells in
+    let needed = e .before .sizes-of .ensures .told (e .if1 .left) .cells in
     let is = eight e ∙ ap (λ b. cond b 8 0) (le-ltb _ _ (two .if2 .left)) in
-    let now = cleared (e .before .measure .result .cells) (a .cells .now) _ (two .if2 .left) (c .before .before .clear .ensures) ∙ ap (λ n. replicate n 0 ++ drop n (a .cells .now)) needed in
+    let now = cleared (e .before .sizes-of .result .cells) (a .cells .now) _ (two .if2 .left) (c .before .before .clear .ensures) ∙ ap (λ n. replicate n 0 ++ drop n (a .cells .now)) needed in
     (λ i. record { number = 0; state = record { filter = a .filter; width = a .width; height = a .height; emitted = 0 }; cells = now i }) ∙ sym (lent-accepted _ _ _ is)
 
 pub start-spec : {M : Type 1} → statement M
 start-spec =
     tie.close
     (tie.spec
-    measure-requires
+    sizes-of-requires
     no-start-requires
     returns
     no-start-requires-2

@@ -1,4 +1,4 @@
--- `stream::calls::measure` meets its contract: the answers of `filter::full_size` and `filter::stream_cells`, case by case.
+-- `stream::calls::sizes_of` meets its contract: the answers of `filter::full_size` and `filter::stream_cells`, case by case.
 -- Assumes nothing.
 use Rattle.spec.specs.Picture.{Sides, fullSides}
 use Rattle.laws.proofs.Refusals.{read-refused, read-accepted}
@@ -6,8 +6,8 @@ use Rattle.filter.specs.Answers.{sizeTold, cellsTold}
 use Rattle.stream.proofs.States.{size-cells}
 use mathlib.Core.Path.{sym, ap, _∙_}
 use borrow.Author.Needs.{needs}
-use Rattle.stream.proofs.calls.measure.Statement.{statement}
-use Rattle.stream.proofs.calls.measure.Tie as tie
+use Rattle.stream.proofs.calls.sizes_of.Statement.{statement}
+use Rattle.stream.proofs.calls.sizes_of.Tie as tie
 
 full-size-requires : tie.Need-full-size-requires
 full-size-requires c κs = search needs
@@ -56,8 +56,8 @@ returns-3 c =
     let p = read-accepted _ _ _ need in
     record { number = sym (q .0); told = λ e. record { width = ap (λ (s : Sides). s .width) (q .1); height = ap (λ (s : Sides). s .height) (q .1); cells = p .1 } }
 
-pub measure-spec : {M : Type 1} → statement M
-measure-spec =
+pub sizes-of-spec : {M : Type 1} → statement M
+sizes-of-spec =
     tie.close
     (tie.spec
     full-size-requires

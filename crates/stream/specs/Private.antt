@@ -1,4 +1,5 @@
--- What the private functions of the calls tell of sizes: a number, or 0 and the grown sides with the needed cells.
+-- Words for the contracts of private functions; no exported contract uses them. What they tell of sizes: a number, or 0, the grown
+-- sides and the needed cells.
 use mathlib.Core.Path.{_≡_}
 use mathlib.Core.Bool.{cond}
 use Prim.Native.Nat.{ℕ, _≤_, _<_}
@@ -6,21 +7,21 @@ use Rattle.spec.specs.Recipe.{Recipe}
 use Rattle.spec.specs.Picture.{fullWidth, fullHeight}
 use Rattle.spec.specs.Stream.{State, streamCells}
 use Rattle.spec.specs.Refusals.{first, sizeChecks, badState}
-use Rattle.stream.specs.declared.calls.Sizes.{Sizes as SizesStruct}
+use Rattle.stream.specs.declared.calls.Sizes.{Sizes}
 
 -- the sizes, where the number is 0
-pub record Told (r : Recipe) (w h : ℕ) (a : SizesStruct) : Type 0 where
+pub record Told (r : Recipe) (w h : ℕ) (a : Sizes) : Type 0 where
   pub width : a .width ≡ fullWidth r w
   pub height : a .height ≡ fullHeight r h
   pub cells : a .cells ≡ streamCells r w
 
 -- for a recipe and sides
-pub record Sized (r : Recipe) (w h : ℕ) (a : SizesStruct) : Type 0 where
+pub record Sized (r : Recipe) (w h : ℕ) (a : Sizes) : Type 0 where
   pub number : a .refusal ≡ first (sizeChecks r w h)
   pub told : a .refusal ≡ 0 → Told r w h a
 
 -- for a state
-pub record Gauged (s : State) (a : SizesStruct) : Type 0 where
+pub record Gauged (s : State) (a : Sizes) : Type 0 where
   pub number : a .refusal ≡ cond (badState s) 9 0
   pub told : a .refusal ≡ 0 → Told (s .recipe) (s .width) (s .height) a
 
