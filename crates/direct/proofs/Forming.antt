@@ -125,10 +125,10 @@ filled-whole ns old new number l s f =
 -- both lists of an accepted recipe are
 module _ (r : Recipe) (p : Picture) (k : Accepted r) where
   across-pos : 0 < product (r .rows)
-  across-pos = rows-pos r p (k .notZero)
+  across-pos = rows-pos r (k .notZero)
 
   down-pos : 0 < product (r .columns)
-  down-pos = columns-pos r p (k .notZero)
+  down-pos = columns-pos r (k .notZero)
 
   pub rows-light : Light (r .rows)
   unfolding gain

@@ -116,8 +116,8 @@ row-end w h b j to size e l g s =
 pub window-exact : (r : Recipe) (p : Picture) → 0 < gain r → (i j : ℕ) → window (kernel (r .rows)) (kernel (r .columns)) p i j ≡ exact r p i j
 unfolding window through across
 window-exact r p h i j =
-    let across-size : length (kernel (r .rows)) ≡ suc (order (r .rows)) = length-kernel (r .rows) (rows-pos r p h) ∙ add-one (order (r .rows)) in
-    let down-size : length (kernel (r .columns)) ≡ suc (order (r .columns)) = length-kernel (r .columns) (columns-pos r p h) ∙ add-one (order (r .columns)) in
+    let across-size : length (kernel (r .rows)) ≡ suc (order (r .rows)) = length-kernel (r .rows) (rows-pos r h) ∙ add-one (order (r .rows)) in
+    let down-size : length (kernel (r .columns)) ≡ suc (order (r .columns)) = length-kernel (r .columns) (columns-pos r h) ∙ add-one (order (r .columns)) in
     through-agree (kernel (r .columns)) (λ v. sum (length (kernel (r .rows))) (λ a. at (kernel (r .rows)) a * behind (line p v) a i)) (across r p i) j
     (λ v. ap (λ n. sum n (λ a. at (kernel (r .rows)) a * behind (line p v) a i)) across-size)
     ∙ ap (λ n. sum n (λ b. at (kernel (r .columns)) b * behind (across r p i) b j)) down-size
@@ -177,8 +177,8 @@ module _ (rs cs : List ℕ) (p : Picture) where
 pub windows-full : (r : Recipe) (p : Picture) → 0 < gain r → windows (kernel (r .rows)) (kernel (r .columns)) p ≡ full r p
 unfolding windows full fullRow fullWidth fullHeight
 windows-full r p h =
-    let W : p .width + length (kernel (r .rows)) - 1 ≡ p .width + order (r .rows) = omega (arith, length-kernel (r .rows) (rows-pos r p h)) in
-    let H : p .height + length (kernel (r .columns)) - 1 ≡ p .height + order (r .columns) = omega (arith, length-kernel (r .columns) (columns-pos r p h)) in
+    let W : p .width + length (kernel (r .rows)) - 1 ≡ p .width + order (r .rows) = omega (arith, length-kernel (r .rows) (rows-pos r h)) in
+    let H : p .height + length (kernel (r .columns)) - 1 ≡ p .height + order (r .columns) = omega (arith, length-kernel (r .columns) (columns-pos r h)) in
     ap₂ (λ m n. flatten (tab m (λ j. tab n (λ i. window (kernel (r .rows)) (kernel (r .columns)) p i j)))) H W
     ∙ ap flatten
     (tab-agree (p .height + order (r .columns)) (λ j. tab (p .width + order (r .rows)) (λ i. window (kernel (r .rows)) (kernel (r .columns)) p i j))

@@ -1,17 +1,17 @@
 -- Cascades of box filters on sequences. A box with a spread s adds up every s-th earlier value: s is 1 along a row, and the width of
 -- a row down a picture that is stored row by row.
 -- Assumes nothing.
-use mathlib.Core.Path.{_≡_, refl, sym, ap, ap₂, _∙_}
+use mathlib.Core.Path.{_≡_, refl, sym, ap, _∙_}
 use mathlib.Core.List.{List, [], _∷_}
 use Prim.Native.Nat.{ℕ, zero, suc, _+_, _-_, _*_, _≤_, _<_}
-use native.Mathlib.Nat.{le-refl, le-trans, le-of-eq, mul-zero, zero-mul, one-mul, mul-one, mul-comm, suc-mul, zero-add}
+use native.Mathlib.Nat.{le-refl, le-trans, mul-zero, zero-mul, one-mul, mul-one, suc-mul, zero-add}
 use native.Mathlib.Decide.{decLe}
 use native.Mathlib.Omega.{arith}
 use lib.ListN.{List·getD-eq-default}
 use Rattle.spec.specs.Words.{sum, product}
 use Rattle.spec.specs.Recipe.{kernel, order}
 use Rattle.laws.proofs.Sums.{sum-agree, sum-zero, sum-first, sum-split}
-use Rattle.laws.proofs.Lists.{factor-pos}
+use Rattle.laws.proofs.Lists.{first-pos, rest-pos}
 use Rattle.laws.proofs.Sequences.{behind, boxed, behind-zero, behind-within, behind-before, behind-agree}
 use Rattle.laws.proofs.Convolution.{conv, ones, conv-agree, conv-comm, conv-assoc, conv-wide, boxed-conv}
 use Rattle.laws.proofs.Kernels.{at, at-kernel, impulse-start, impulse-later, length-kernel}
@@ -101,11 +101,10 @@ spread-grows s (suc n) f k h =
     omega (arith, sum-first (λ a. behind f (a * s) k) n, ap (λ b. behind f b k) (zero-mul s), behind-zero f k)
 
 pub cascaded-grows : (s : ℕ) (ns : List ℕ) (f : ℕ → ℕ) (k : ℕ) → 0 < product ns → f k ≤ cascaded s ns f k
-unfolding cascaded product
+unfolding cascaded
 cascaded-grows s [] f k h = le-refl (f k)
 cascaded-grows s (n ∷ ns) f k h =
-    le-trans (spread-grows s n f k (factor-pos (product ns) n (le-trans h (le-of-eq (mul-comm n (product ns))))))
-    (cascaded-grows s ns (spread s n f) k (factor-pos n (product ns) h))
+    le-trans (spread-grows s n f k (first-pos n ns h)) (cascaded-grows s ns (spread s n f) k (rest-pos n ns h))
 
 -- a convolution with a sequence that is 0 past m
 pub conv-short : (f g : ℕ → ℕ) (m k : ℕ) → ((a : ℕ) → m < a → f a ≡ 0) → conv f g k ≡ sum (suc m) (λ a. f a * behind g a k)
@@ -124,15 +123,15 @@ pub kernel-short : (ns : List ℕ) → 0 < product ns → (a : ℕ) → order ns
 unfolding at
 kernel-short ns h a l = List·getD-eq-default (kernel ns) 0 (omega (arith, length-kernel ns h))
 
--- the convolution with the single coefficient 1 changes nothing
-conv-impulse : (f : ℕ → ℕ) (k : ℕ) → conv (at (kernel [])) f k ≡ f k
+-- a convolution with a sequence that is 0 past its start, and with the single coefficient 1
+pub conv-first : (f g : ℕ → ℕ) (k : ℕ) → ((a : ℕ) → 0 < a → f a ≡ 0) → conv f g k ≡ f 0 * g k
 unfolding sum
+conv-first f g k z =
+    conv-short f g 0 k z ∙ zero-add (f 0 * behind g 0 k) ∙ ap (λ x. f 0 * x) (behind-zero g k)
+
+pub conv-impulse : (f : ℕ → ℕ) (k : ℕ) → conv (at (kernel [])) f k ≡ f k
 conv-impulse f k =
-    conv-short (at (kernel [])) f 0 k (λ a h. impulse-later a (λ e. omega arith))
-    ∙ once (at (kernel [])) (impulse-start 0 refl)
-  where
-    once : (u : ℕ → ℕ) → u 0 ≡ 1 → sum 1 (λ a. u a * behind f a k) ≡ f k
-    once u e = zero-add (u 0 * behind f 0 k) ∙ ap₂ _*_ e (behind-zero f k) ∙ one-mul (f k)
+    conv-first (at (kernel [])) f k (λ a h. impulse-later a (λ e. omega arith)) ∙ ap (λ x. x * f k) (impulse-start 0 refl) ∙ one-mul (f k)
 
 -- a cascade is the convolution with its coefficients
 pub cascaded-conv : (ns : List ℕ) (f : ℕ → ℕ) (k : ℕ) → cascaded 1 ns f k ≡ conv (at (kernel ns)) f k

@@ -43,6 +43,15 @@ pixel-inside p i j h l = rw (lt-ltb i (p .width) h, lt-ltb j (p .height) l) refl
 unfoldable pub line : Picture → ℕ → ℕ → ℕ
 line p j i = pixel p i j
 
+-- the two parts of a weight that is not 0
+pub rows-pos : (r : Recipe) → 0 < gain r → 0 < product (r .rows)
+unfolding gain
+rows-pos r h = factor-pos (product (r .columns)) (product (r .rows)) (rw (mul-comm (product (r .columns)) (product (r .rows))) h)
+
+pub columns-pos : (r : Recipe) → 0 < gain r → 0 < product (r .columns)
+unfolding gain
+columns-pos r h = factor-pos (product (r .rows)) (product (r .columns)) h
+
 module _ (r : Recipe) (p : Picture) where
   -- row j through the row coefficients, at i
   unfoldable pub across : ℕ → ℕ → ℕ
@@ -78,25 +87,16 @@ module _ (r : Recipe) (p : Picture) where
       ∙ sum-scale (λ a. behind (λ v. R a * behind (line p v) a i) b j) (C b) m
       ∙ ap (λ x. C b * x) (sym (behind-sum m (λ a v. R a * behind (line p v) a i) b j)))
 
-  -- the two parts of a weight that is not 0
-  pub rows-pos : 0 < gain r → 0 < product (r .rows)
-  unfolding gain
-  rows-pos h = factor-pos (product (r .columns)) (product (r .rows)) (le-trans h (le-of-eq (mul-comm (product (r .rows)) (product (r .columns)))))
-
-  pub columns-pos : 0 < gain r → 0 < product (r .columns)
-  unfolding gain
-  columns-pos h = factor-pos (product (r .rows)) (product (r .columns)) h
-
   -- a cascade along the rows, then one down the columns
   pub exact-cascaded : 0 < gain r → (i j : ℕ) → exact r p i j ≡ cascaded 1 (r .columns) (λ v. cascaded 1 (r .rows) (line p v) i) j
   unfolding across
   exact-cascaded h i j =
       exact-down i j
-      ∙ sym (conv-short (at (kernel (r .columns))) (across i) (order (r .columns)) j (kernel-short (r .columns) (columns-pos h)))
+      ∙ sym (conv-short (at (kernel (r .columns))) (across i) (order (r .columns)) j (kernel-short (r .columns) (columns-pos r h)))
       ∙ conv-agree (at (kernel (r .columns))) (at (kernel (r .columns))) (across i) (λ v. cascaded 1 (r .rows) (line p v) i) j (λ a l. refl)
       (λ v l.
       sym (cascaded-conv (r .rows) (line p v) i
-      ∙ conv-short (at (kernel (r .rows))) (line p v) (order (r .rows)) i (kernel-short (r .rows) (rows-pos h))))
+      ∙ conv-short (at (kernel (r .rows))) (line p v) (order (r .rows)) i (kernel-short (r .rows) (rows-pos r h))))
       ∙ sym (cascaded-conv (r .columns) (λ v. cascaded 1 (r .rows) (line p v) i) j)
 
   -- Pixels are bytes.

@@ -6,5 +6,8 @@ pub mod Sequences
 pub mod Convolution
 pub mod Kernels
 pub mod Cascades
+pub mod Counts
+pub mod Integrators
 pub mod Exact
+pub mod Sameness
 pub mod Refusals

@@ -105,11 +105,20 @@ pub factor-pos : (a b : ℕ) → 0 < a * b → 0 < b
 factor-pos a zero h = omega (arith, mul-zero a)
 factor-pos a (suc b) h = omega arith
 
+-- the first entry and the rest of a list whose product is not 0
+pub first-pos : (x : ℕ) (xs : List ℕ) → 0 < product (x ∷ xs) → 0 < x
+unfolding product
+first-pos x xs h = factor-pos (product xs) x (rw (mul-comm (product xs) x) h)
+
+pub rest-pos : (x : ℕ) (xs : List ℕ) → 0 < product (x ∷ xs) → 0 < product xs
+unfolding product
+rest-pos x xs h = factor-pos x (product xs) h
+
 -- the product of the back of a list is no more than the whole, where no entry is 0
 pub product-back : (i : ℕ) (xs : List ℕ) → 0 < product xs → product (drop i xs) ≤ product xs
 unfolding product
 product-back zero xs h = le-refl (product xs)
 product-back (suc i) [] h = le-refl 1
 product-back (suc i) (x ∷ xs) h =
-    le-trans (product-back i xs (factor-pos x (product xs) h))
-    (le-trans (le-mul-of-pos-right (product xs) (factor-pos (product xs) x (rw (mul-comm (product xs) x) h))) (le-of-eq (mul-comm (product xs) x)))
+    le-trans (product-back i xs (rest-pos x xs h))
+    (le-trans (le-mul-of-pos-right (product xs) (first-pos x xs h)) (le-of-eq (mul-comm (product xs) x)))

@@ -86,7 +86,7 @@ module _ (r : Recipe) (p : Picture) where
   cascaded-along g i j h =
       let R = at (kernel (r .rows)) in
       let m = order (r .rows) in
-      let short = kernel-short (r .rows) (rows-pos r p g) in
+      let short = kernel-short (r .rows) (rows-pos r g) in
       cascaded-conv (r .rows) (flat p W) (j * W + i)
       ∙ conv-short R (flat p W) m (j * W + i) short
       ∙ sum-agree (λ a. R a * behind (flat p W) a (j * W + i)) (λ a. R a * behind (line p j) a i) (suc m)

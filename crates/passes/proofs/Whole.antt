@@ -37,7 +37,7 @@ module _ (r : Recipe) (p : Picture) (W size : ℕ) (a : AcceptedPicture r p) (sm
     pub rows-small : Small size (cascaded 1 (r .rows) (at now))
     rows-small k h =
         le-trans (le-of-eq (rows-agree k h))
-        (le-trans (cascaded-grows W (r .columns) across k (columns-pos r p (a .recipe .notZero))) (all-small k))
+        (le-trans (cascaded-grows W (r .columns) across k (columns-pos r (a .recipe .notZero))) (all-small k))
 
     pub rows-done : (new : List ℕ) → Below size (cascaded 1 (r .rows) (at now)) new → Below size across new
     rows-done new d k h = d k h ∙ rows-agree k h

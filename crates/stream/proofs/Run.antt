@@ -23,7 +23,7 @@ use Rattle.stream.specs.declared.calls.State.{State}
 use Rattle.stream.specs.Stages.{entering}
 use Rattle.stream.specs.Calls.{Called, stateOf, next, steps, answers, push, drain, Began, start, started}
 use Rattle.stream.specs.Runs.{Call, aRow, aDrain, answerOf, Yielded, run, Carried, carried, rowOf, rows, outputs, isRow, kinds, pictureRow, whole}
-use Rattle.stream.specs.OnePass.{Bytes, acceptedCalls, left, OnePass, Claim as TheClaim}
+use Rattle.stream.specs.OnePass.{Bytes, acceptedCalls, left, FirstRows, OnePass, Claim as TheClaim}
 use Rattle.stream.proofs.States.{bad-late, row-ready, drain-ready}
 use Rattle.stream.proofs.Yield.{Honest, row-yielded, cells-length, cells-honest, entering-row, entering-black, start-honest}
 
@@ -421,7 +421,7 @@ module _ (f : Filter) (p : Picture) (cells : List ℕ) (begins : first (startChe
   from-zero A n g = tab-agree n (λ k. g (0 + k)) g (λ k h. ap g (zero-add k))
 
   exact-so : Bytes p → (calls : List Call) → let ys = run calls (at f p 0) ready in
-      rows ys ≡ tab (length (rows ys)) (pictureRow p) → outputs ys ≡ tab (length ys) (fullRow (recipe f) p)
+      FirstRows p ys → outputs ys ≡ tab (length ys) (fullRow (recipe f) p)
   unfolding Claim r
   exact-so small calls given =
       let ys = run calls (at f p 0) ready in
@@ -452,11 +452,22 @@ module _ (f : Filter) (p : Picture) (cells : List ℕ) (begins : first (startChe
       ∙ ap (λ (k : Carried). first (checks c (k .state) (k .cells))) (leaves calls)
       ∙ ap (λ t. first (checks c t (carried calls (at f p 0) ready .cells))) (after calls .0 ∙ ap (λ ys. at f p (length ys)) (sym (runs calls)))
 
+  -- all rows and then ry drains are accepted
+  taken : (outs : ℕ → List ℕ) → ((k : ℕ) → length (outs k) ≡ fullWidth (recipe f) (p .width))
+      → let ys = run (whole p (order (recipe f .columns)) outs) (at f p 0) ready in FirstRows p ys × (length ys ≡ fullHeight (recipe f) (p .height))
+  unfolding r needed
+  taken outs wide =
+      let calls = whole p (order (recipe f .columns)) outs in
+      let all = due-all f p calls 0 ready (whole-due f p (asked .0) outs wide) (honest .enough) in
+      let in-rows = all .rowsIn ∙ whole-given f p (asked .0) outs wide in
+      let count : length (rows (run calls (at f p 0) ready)) ≡ p .height = ap length in-rows ∙ length-tab (p .height) (pictureRow p) in
+      (in-rows ∙ ap (λ n. tab n (pictureRow p)) (sym count), all .many ∙ whole-length f p (asked .0) outs wide)
+
   holds : OnePass f p cells
   unfolding r needed
   holds =
       record {
-        exactRows = λ small calls. subst (λ ys. rows ys ≡ tab (length (rows ys)) (pictureRow p) → outputs ys ≡ tab (length ys) (fullRow (recipe f) p)) (sym (runs calls)) (exact-so small calls);
+        exactRows = λ small calls. subst (λ ys. FirstRows p ys → outputs ys ≡ tab (length ys) (fullRow (recipe f) p)) (sym (runs calls)) (exact-so small calls);
         inTurn = λ calls. subst (λ ys. kinds ys ≡ tab (length ys) (λ k. ltb k (p .height))) (sym (runs calls)) (turn-so calls .0);
         atMost = most;
         rowNumber =
@@ -467,15 +478,13 @@ module _ (f : Filter) (p : Picture) (cells : List ℕ) (begins : first (startChe
             λ calls out.
             number-so calls (aDrain out)
             ∙ drain-number f p (asked .0) (length (acceptedCalls f p cells calls)) (most calls) (carried calls (at f p 0) ready .cells) (after calls .1) out;
+        rowsTaken = λ outs wide. subst (FirstRows p) (sym (runs (whole p (order (recipe f .columns)) outs))) (taken outs wide .0);
         allRows =
             λ small outs wide.
             let calls = whole p (order (recipe f .columns)) outs in
-            let all = due-all f p calls 0 ready (whole-due f p (asked .0) outs wide) (honest .enough) in
-            let in-rows = all .rowsIn ∙ whole-given f p (asked .0) outs wide in
-            let count : length (rows (run calls (at f p 0) ready)) ≡ p .height = ap length in-rows ∙ length-tab (p .height) (pictureRow p) in
             ap outputs (runs calls)
-            ∙ exact-so small calls (in-rows ∙ ap (λ n. tab n (pictureRow p)) (sym count))
-            ∙ ap (λ n. tab n (fullRow (recipe f) p)) (all .many ∙ whole-length f p (asked .0) outs wide);
+            ∙ exact-so small calls (taken outs wide .0)
+            ∙ ap (λ n. tab n (fullRow (recipe f) p)) (taken outs wide .1);
       }
     where
       most : (calls : List Call) → length (acceptedCalls f p cells calls) ≤ fullHeight (recipe f) (p .height)

@@ -84,7 +84,7 @@ module _ (r : Recipe) (p : Picture) where
       rows-through =
           let rc = total boxCells (r .rows) in
           let size : length (take rc cells) ≡ rc = length-take-le rc cells (needed cells (h .enough) .0) in
-          let both = rows-follow W (r .rows) (line p e) row (take rc cells) (rows-pos r p pos) size (entered e row is) in
+          let both = rows-follow W (r .rows) (line p e) row (take rc cells) (rows-pos r pos) size (entered e row is) in
           (both .0, both .1 ∙ size)
 
       second : Worked
@@ -96,7 +96,7 @@ module _ (r : Recipe) (p : Picture) where
       downwards =
           let back = drop (cascadeCells (r .rows)) cells in
           let made =
-          columns-follow W (r .columns) passed e (first .row) back (columns-pos r p pos) (needed cells (h .enough) .1) (rows-through .0) (h .kept) in
+          columns-follow W (r .columns) passed e (first .row) back (columns-pos r pos) (needed cells (h .enough) .1) (rows-through .0) (h .kept) in
           let same : stages (λ n. W * boxCells n) (columnStage e) (r .columns) (first .row) back
           ≡ stages (λ n. length (first .row) * boxCells n) (columnStage e) (r .columns) (first .row) back =
           ap (λ w. stages (λ n. w * boxCells n) (columnStage e) (r .columns) (first .row) back) (sym (rows-through .0 .wide)) in
@@ -158,7 +158,7 @@ module _ (r : Recipe) (p : Picture) where
       record {
         enough = long;
         kept =
-            zeros-kept (W r p) (r .columns) (passed r p) (drop rc new) (columns-pos r p pos) (room .1)
+            zeros-kept (W r p) (r .columns) (passed r p) (drop rc new) (columns-pos r pos) (room .1)
             (λ k g.
             let q : rc + k < n = omega (arith, total-scale boxCells (W r p) (r .columns)) in
             getD-drop rc new k 0

@@ -28,11 +28,14 @@ left f p cells calls =
     let s = start f (p .width) (p .height) cells in
     carried calls (s .state) (s .cells)
 
+-- the rows of the accepted row calls are the picture's first rows, in order
+abbrev pub FirstRows : Picture → List Yielded → Type 0
+FirstRows p ys = rows ys ≡ tab (length (rows ys)) (pictureRow p)
+
 pub record OnePass (f : Filter) (p : Picture) (cells : List ℕ) : Type 0 where
   -- The k-th accepted call leaves in its output grown row k - 1 of the exact sums, for every list of calls, refused ones included, and
   -- every picture whose first rows, in order, are those of the accepted row calls.
-  pub exactRows : Bytes p → (calls : List Call)
-      → rows (acceptedCalls f p cells calls) ≡ tab (length (rows (acceptedCalls f p cells calls))) (pictureRow p)
+  pub exactRows : Bytes p → (calls : List Call) → FirstRows p (acceptedCalls f p cells calls)
       → outputs (acceptedCalls f p cells calls) ≡ tab (length (acceptedCalls f p cells calls)) (fullRow (recipe f) p)
   -- Row calls are accepted first, as many as the picture has rows, then drains, and nothing after the last grown row.
   pub inTurn : (calls : List Call) → kinds (acceptedCalls f p cells calls) ≡ tab (length (acceptedCalls f p cells calls)) (λ k. ltb k (p .height))
@@ -47,7 +50,9 @@ pub record OnePass (f : Filter) (p : Picture) (cells : List ℕ) : Type 0 where
       → answerOf (aDrain out) (left f p cells calls .state) (left f p cells calls .cells) .number
       ≡ first (check (ltb (length (acceptedCalls f p cells calls)) (p .height) || leb (fullHeight (recipe f) (p .height)) (length (acceptedCalls f p cells calls))) 10
       ∷ check (otherOutput (length out) (fullWidth (recipe f) (p .width))) 7 ∷ [])
-  -- All rows of the picture and then ry drains, with outputs of the grown width, yield all grown rows.
+  -- All rows of the picture and then ry drains, with outputs of the grown width: every row is accepted, and all grown rows are yielded.
+  pub rowsTaken : (outs : ℕ → List ℕ) → ((k : ℕ) → length (outs k) ≡ fullWidth (recipe f) (p .width))
+      → FirstRows p (acceptedCalls f p cells (whole p (order (recipe f .columns)) outs))
   pub allRows : Bytes p → (outs : ℕ → List ℕ) → ((k : ℕ) → length (outs k) ≡ fullWidth (recipe f) (p .width))
       → outputs (acceptedCalls f p cells (whole p (order (recipe f .columns)) outs)) ≡ tab (fullHeight (recipe f) (p .height)) (fullRow (recipe f) p)
 

@@ -78,7 +78,7 @@ cascade-requires c κs =
     let now = present (turns2 .result) (place .last .1 .1 .1 .1 .1 .0) (place .last .1 .1 .1 .1 .1 .1 .0) in
     let long = place .kept .1 .1 .1 .1 .1 .0 in (
       omega (arith, length-widths (f .rows), start .pre .0 .recipe .rowsShort),
-      rows-pos (recipe f) p (start .pre .0 .recipe .notZero),
+      rows-pos (recipe f) (start .pre .0 .recipe .notZero),
       place .kept .1 .1 .1 .1 .1 .1 .0 ∙ start .pre .4 ∙ sym long,
       record { some = positive c; size = long ∙ sym (mul-one size); offsets = omega arith },
       λ k h. rows-small (recipe f) p W size (start .pre .0) (bytes known) (start .pre .1) now (place .ensures) k (omega arith),
@@ -124,7 +124,7 @@ cascade-requires-2 c κs =
     let most : W ≤ 1279 = omega (arith, start .pre .1, start .pre .0 .recipe .rowReach, start .pre .0 .sides .width .1) in
     let wide : 255 * W ≤ 255 * 1279 = mul-le-mul-left 255 most in (
       omega (arith, length-widths (f .columns), start .pre .0 .recipe .columnsShort),
-      columns-pos (recipe f) p (start .pre .0 .recipe .notZero),
+      columns-pos (recipe f) (start .pre .0 .recipe .notZero),
       cascade .kept .1 .1 .1 .1 .1 .0 ∙ place .kept .1 .1 .1 .1 .1 .1 .0 ∙ start .pre .4 ∙ sym long,
       record {
         some = omega (arith, start .pre .2, start .pre .0 .sides .height .0);

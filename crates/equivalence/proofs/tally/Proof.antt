@@ -1,0 +1,84 @@
+-- `equivalence::tally` meets its contract: after i widths the tally holds those before.
+-- Assumes nothing.
+use mathlib.Core.Path.{refl, sym, subst}
+use mathlib.Core.Logic.{⊎-elim}
+use Prim.Native.Nat.{_+_, _-_}
+use borrow.Author.Needs.{needs}
+use Rattle.equivalence.proofs.Tallies.{Tallied, tallied-none, tallied-one, tallied-more, tally-small, tallied-all}
+use Rattle.equivalence.proofs.tally.Statement.{statement}
+use Rattle.equivalence.proofs.tally.Tie as tie
+
+abbrev Inv-loop : tie.InvT-loop
+Inv-loop list count counts₀ i₀ counts i = Tallied list count counts i
+
+abbrev μ-loop : tie.MeasureT-loop
+μ-loop list count counts₀ i₀ counts i = count - i
+
+cast-count : tie.Need-cast-count Inv-loop μ-loop
+cast-count c = search needs
+
+loop-holds : tie.Need-loop-holds Inv-loop μ-loop
+loop-holds c = tallied-none (c .args .t1) _ refl (search needs)
+
+element-copy-out-place : tie.Need-element-copy-out-place Inv-loop μ-loop
+element-copy-out-place c = search needs
+
+place-requires : tie.Need-place-requires Inv-loop μ-loop
+place-requires c κs = search needs
+
+array-read-counts : tie.Need-array-read-counts Inv-loop μ-loop
+array-read-counts c = search needs
+
+add-counts : tie.Need-add-counts Inv-loop μ-loop
+add-counts c =
+    let start = c .before .before .before .before .before in
+    let turn = c .before .before .before .before .loop in
+    let n = c .before .place .result in
+    let small = tally-small (start .args .t1) _ (turn .counts) (turn .i) (turn .inv) (search needs) (start .pre) n (c .before .place .ensures .1) in
+    search needs
+
+array-write-counts : tie.Need-array-write-counts Inv-loop μ-loop
+array-write-counts c = search needs
+
+add-i : tie.Need-add-i Inv-loop μ-loop
+add-i c = search needs
+
+loop-less : tie.Need-loop-less Inv-loop μ-loop
+loop-less c = search needs
+
+loop-again : tie.Need-loop-again Inv-loop μ-loop
+loop-again c =
+    let start = c .before .before .before .before .before in
+    let turn = c .before .before .before .before .loop in
+    let place = c .before .place in
+    ⊎-elim
+    (λ then.
+    subst (λ counts. Tallied (start .args .t1) (start .args .t1 .count) counts (turn .i + 1)) (sym (then .1))
+    (tallied-more (start .args .t1) _ (turn .counts) (turn .i) (turn .inv) (search needs) (start .pre) (place .result) (place .ensures .0) (then .0 .taken) (place .ensures .1)))
+    (λ else.
+    subst (λ counts. Tallied (start .args .t1) (start .args .t1 .count) counts (turn .i + 1)) (sym (else .1))
+    (tallied-one (start .args .t1) _ (turn .counts) (turn .i) (turn .inv) (search needs) (start .pre) (place .result) (place .ensures .0) (else .0 .left)))
+    (c .if1 .came)
+
+returns : tie.Need-returns Inv-loop μ-loop
+returns c =
+    let turn = c .before .loop in
+    tallied-all (c .before .before .args .t1) _ (turn .counts) (turn .i) (turn .inv) (c .loop-test .left)
+
+pub tally-spec : {M : Type 1} → statement M
+tally-spec =
+    tie.close
+    (tie.spec
+    Inv-loop
+    μ-loop
+    cast-count
+    loop-holds
+    element-copy-out-place
+    place-requires
+    array-read-counts
+    add-counts
+    array-write-counts
+    add-i
+    loop-less
+    loop-again
+    returns)

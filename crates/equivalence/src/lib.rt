@@ -1,0 +1,100 @@
+// Document 01's comparing call: whether two recipes are the same, by how often each width occurs in
+// their lists.
+ghost use mathlib.Core.Path.{_≡_};
+ghost use mathlib.Core.Bool.{true};
+ghost use Prim.Native.Nat.{_≤_, _<_};
+ghost use Rattle.spec.specs.Words.{everywhere};
+ghost use Rattle.spec.specs.Recipe.{recipe, widths};
+ghost use Rattle.spec.specs.Same.{sameCounts};
+ghost use Rattle.spec.specs.Refusals.{first, compareChecks};
+ghost use Rattle.equivalence.specs.Compared.{Compared};
+ghost use Rattle.equivalence.specs.Tally.{byte, tallyOf, alike};
+use filter::check;
+use spec::Cascade;
+use spec::Filter;
+
+// What comparing two recipes answers.
+pub enum Comparison {
+    Same,
+    Different,
+    Refused(u8),
+}
+
+// A width as a place in a tally.
+fn place(n: u8) -> usize
+    ensures { λ r. ⌜ (r ≡ n) × (r < 256) ⌝ }
+{
+    n as usize
+}
+
+// How often each width occurs in a cascade, with widths of 1 struck out.
+fn tally(list: Cascade) -> [u8; 256]
+    requires { ⌜ list .count ≤ 48 ⌝ }
+    ensures { λ r. ⌜ (r ≡ tallyOf (widths list)) × (everywhere byte (widths list) ≡ true) ⌝ }
+{
+    let count = list.count as usize;
+    let mut counts = [0u8; 256];
+    let mut i: usize = 0;
+    while i < count {
+        let n = place(list.widths[i]);
+        if n != 1 {
+            counts[n] += 1;
+        }
+        i += 1;
+    }
+    counts
+}
+
+// Whether two tallies agree at each width of a cascade.
+fn agree(list: Cascade, a: &[u8; 256], b: &[u8; 256]) -> bool
+    requires { ⌜ list .count ≤ 48 ⌝ }
+    ensures { λ r. ⌜ r ≡ everywhere (alike (now (a .entry)) (now (b .entry))) (widths list) ⌝ }
+{
+    let count = list.count as usize;
+    let mut i: usize = 0;
+    while i < count {
+        let n = place(list.widths[i]);
+        if a[n] != b[n] {
+            return false;
+        }
+        i += 1;
+    }
+    true
+}
+
+// Whether every width but 1 occurs as often in one cascade as in another.
+fn same_counts(a: Cascade, b: Cascade) -> bool
+    requires { ⌜ (a .count ≤ 48) × (b .count ≤ 48) ⌝ }
+    ensures { λ r. ⌜ r ≡ sameCounts (widths a) (widths b) ⌝ }
+{
+    let of_a = tally(a);
+    let of_b = tally(b);
+    if agree(a, &of_a, &of_b) {
+        agree(b, &of_a, &of_b)
+    } else {
+        false
+    }
+}
+
+// The number of the first's 1 to 4 that applies, or else of the second's; 0 where none does.
+fn refusal(a: Filter, b: Filter) -> u8
+    ensures { λ r. ⌜ r ≡ first (compareChecks (recipe a) (recipe b)) ⌝ }
+{
+    let number = check(a);
+    if number != 0 { number } else { check(b) }
+}
+
+// Whether two recipes are the same: refused by the first's 1 to 4 and then by the second's.
+pub fn equivalent(a: Filter, b: Filter) -> Comparison
+    ensures { λ r. ⌜ Compared a b r ⌝ }
+{
+    let number = refusal(a, b);
+    if number != 0 {
+        return Comparison::Refused(number);
+    }
+    if same_counts(a.rows, b.rows) && same_counts(a.columns, b.columns) {
+        Comparison::Same
+    } else {
+        Comparison::Different
+    }
+}

@@ -1,0 +1,273 @@
+-- Integrators, which undo boxes: a box of width n with a spread s, and after it the integrator that adds up every n s-th earlier value,
+-- are the integrator that adds up every s-th. So cascades become products of integrators, and of those the count of each can be read off.
+-- Assumes nothing.
+use mathlib.Core.Path.{_≡_, refl, sym, ap, ap₂, _∙_}
+use mathlib.Core.Bool.{cond}
+use mathlib.Core.List.{List, [], _∷_, _++_, List·Permᴰ, List·Permᴰ·nil, List·Permᴰ·cons, List·Permᴰ·swap, List·Permᴰ·trans}
+use Prim.Native.Nat.{ℕ, zero, suc, _+_, _-_, _*_, _≤_, _<_}
+use native.Mathlib.Nat.{le-refl, le-trans, le-of-eq, mul-assoc, mul-pos, one-mul, add-comm, add-mul, suc-mul, zero-mul, le-mul-of-pos-right, mul-le-mul-right, mul-lt-mul-of-pos-right}
+use native.Mathlib.Decide.{decLt}
+use native.Mathlib.Omega.{arith}
+use lib.Dec.{ltb}
+use lib.ListN.{length, replicate}
+use borrow.Author.Tests.{lt-ltb, le-ltb}
+use Rattle.spec.specs.Words.{sum, total, product, keep, occurs}
+use Rattle.laws.proofs.Sums.{sum-agree, sum-zero, sum-split, sum-swap}
+use Rattle.laws.proofs.Lists.{first-pos, rest-pos}
+use Rattle.laws.proofs.Sequences.{behind, behind-within, behind-before, behind-agree}
+use Rattle.laws.proofs.Cascades.{spread, cascaded, spread-agree, slide, behind-behind, behind-sum}
+use Rattle.laws.proofs.Counts.{Balanced, balanced-order, product-order, occurs-here, occurs-other, occurs-keep, keep-pos}
+
+-- the integrator with a spread s: f k + f (k - s) + .. , as far back as the sequence goes
+unfoldable pub integrated : ℕ → (ℕ → ℕ) → ℕ → ℕ
+integrated s f k = spread s (suc k) f k
+
+-- integrators one after the other, for each u of a list the one with a spread u s, the last of the list first
+unfoldable pub integrators : ℕ → List ℕ → (ℕ → ℕ) → ℕ → ℕ
+integrators s [] f = f
+integrators s (u ∷ us) f = integrated (u * s) (integrators s us f)
+
+-- a box after a box
+spread-twice : (s t n m : ℕ) (f : ℕ → ℕ) (k : ℕ) → spread s n (spread t m f) k ≡ sum n (λ a. sum m (λ b. behind f (b * t + a * s) k))
+unfolding spread
+spread-twice s t n m f k =
+    sum-agree (λ a. behind (λ j. sum m (λ b. behind f (b * t) j)) (a * s) k) (λ a. sum m (λ b. behind f (b * t + a * s) k)) n
+    (λ a h.
+    behind-sum m (λ b. behind f (b * t)) (a * s) k
+    ∙ sum-agree (λ b. behind (behind f (b * t)) (a * s) k) (λ b. behind f (b * t + a * s) k) m (λ b l. behind-behind f (b * t) (a * s) k))
+
+-- boxes may be taken in either order, whatever their spreads
+pub spread-comm : (s t n m : ℕ) (f : ℕ → ℕ) (k : ℕ) → spread s n (spread t m f) k ≡ spread t m (spread s n f) k
+spread-comm s t n m f k =
+    spread-twice s t n m f k
+    ∙ sum-swap (λ a b. behind f (b * t + a * s) k) n m
+    ∙ sum-agree (λ b. sum n (λ a. behind f (b * t + a * s) k)) (λ b. sum n (λ a. behind f (a * s + b * t) k)) m
+    (λ b h. sum-agree (λ a. behind f (b * t + a * s) k) (λ a. behind f (a * s + b * t) k) n (λ a l. ap (λ c. behind f c k) (add-comm (b * t) (a * s))))
+    ∙ sym (spread-twice t s m n f k)
+
+-- a box that reaches back past the start is the integrator
+spread-whole : (s m : ℕ) (f : ℕ → ℕ) (k : ℕ) → 0 < s → k < m → spread s m f k ≡ integrated s f k
+unfolding integrated spread
+spread-whole s m f k h l =
+    let e : m ≡ suc k + (m - suc k) = omega arith in
+    let past : sum (m - suc k) (λ a. behind f ((suc k + a) * s) k) ≡ 0 =
+    sum-agree (λ a. behind f ((suc k + a) * s) k) (λ a. 0) (m - suc k)
+    (λ a g. behind-before f ((suc k + a) * s) k (omega (arith, le-mul-of-pos-right (suc k + a) h)))
+    ∙ sum-zero (m - suc k) in
+    omega (arith, past, sum-split (λ a. behind f (a * s) k) (suc k) (m - suc k), ap (λ n. sum n (λ a. behind f (a * s) k)) e)
+
+-- sequences that agree up to k
+pub integrated-agree : (s : ℕ) (f g : ℕ → ℕ) (k : ℕ) → ((j : ℕ) → j ≤ k → f j ≡ g j) → integrated s f k ≡ integrated s g k
+unfolding integrated
+integrated-agree s f g k e = spread-agree s (suc k) f g k e
+
+-- y (k) = f (k) + y (k - s)
+pub integrated-step : (s : ℕ) (f : ℕ → ℕ) (k : ℕ) → 0 < s → integrated s f k ≡ f k + behind (integrated s f) s k
+unfolding integrated
+integrated-step s f k h =
+    omega (
+      arith,
+      slide s (suc k) f k,
+      behind-before f (suc k * s) k (omega (arith, le-mul-of-pos-right (suc k) h)),
+      behind-agree (spread s (suc k) f) (integrated s f) k (λ j l. spread-whole s (suc k) f j h (omega arith)) s,
+    )
+
+-- integrators may be taken in either order
+pub integrated-comm : (s t : ℕ) (f : ℕ → ℕ) (k : ℕ) → 0 < s → 0 < t → integrated s (integrated t f) k ≡ integrated t (integrated s f) k
+unfolding integrated
+integrated-comm s t f k h g =
+    spread-agree s (suc k) (integrated t f) (spread t (suc k) f) k (λ j l. sym (spread-whole t (suc k) f j g (omega arith)))
+    ∙ spread-comm s t (suc k) (suc k) f k
+    ∙ spread-agree t (suc k) (spread s (suc k) f) (integrated s f) k (λ j l. spread-whole s (suc k) f j h (omega arith))
+
+-- m rows of n terms, as one sum
+sum-rows : (g : ℕ → ℕ) (m n : ℕ) → sum (m * n) g ≡ sum m (λ a. sum n (λ b. g (a * n + b)))
+unfolding sum
+sum-rows g zero n = ap (λ k. sum k g) (zero-mul n)
+sum-rows g (suc m) n = ap (λ k. sum k g) (suc-mul m n) ∙ sum-split g (m * n) n ∙ ap (λ t. t + sum n (λ b. g (m * n + b))) (sum-rows g m n)
+
+-- a box, and the integrator that undoes it
+pub integrated-box : (s n : ℕ) (f : ℕ → ℕ) (k : ℕ) → 0 < s → 0 < n → integrated (n * s) (spread s n f) k ≡ integrated s f k
+unfolding sum spread integrated
+integrated-box s n f k h g =
+    let wide : k < suc k * n = omega (arith, le-mul-of-pos-right (suc k) g) in
+    spread-twice (n * s) s (suc k) n f k
+    ∙ sum-agree (λ a. sum n (λ b. behind f (b * s + a * (n * s)) k)) (λ a. sum n (λ b. behind f ((a * n + b) * s) k)) (suc k)
+    (λ a l. sum-agree (λ b. behind f (b * s + a * (n * s)) k) (λ b. behind f ((a * n + b) * s) k) n
+    (λ b i. ap (λ c. behind f c k) (omega (arith, add-mul (a * n) b s, mul-assoc a n s))))
+    ∙ sym (sum-rows (λ c. behind f (c * s) k) (suc k) n)
+    ∙ spread-whole s (suc k * n) f k h wide
+
+-- integrators one after the other: sequences that agree, lists one after the other, and the order of the list
+pub integrators-agree : (s : ℕ) (us : List ℕ) (f g : ℕ → ℕ) (k : ℕ) → ((j : ℕ) → j ≤ k → f j ≡ g j) → integrators s us f k ≡ integrators s us g k
+unfolding integrators
+integrators-agree s [] f g k e = e k (le-refl k)
+integrators-agree s (u ∷ us) f g k e =
+    integrated-agree (u * s) (integrators s us f) (integrators s us g) k (λ j h. integrators-agree s us f g j (λ i l. e i (le-trans l h)))
+
+pub integrators-append : (s : ℕ) (us vs : List ℕ) (f : ℕ → ℕ) (k : ℕ) → integrators s (us ++ vs) f k ≡ integrators s us (integrators s vs f) k
+unfolding integrators
+integrators-append s [] vs f k = refl
+integrators-append s (u ∷ us) vs f k =
+    integrated-agree (u * s) (integrators s (us ++ vs) f) (integrators s us (integrators s vs f)) k (λ j h. integrators-append s us vs f j)
+
+pub ones-pos : (n : ℕ) → 0 < product (replicate n 1)
+unfolding product
+ones-pos zero = omega arith
+ones-pos (suc n) = mul-pos (omega arith) (ones-pos n)
+
+module _ (s : ℕ) (h : 0 < s) where
+  pub integrators-order : {us vs : List ℕ} → List·Permᴰ us vs → 0 < product us → (f : ℕ → ℕ) (k : ℕ) → integrators s us f k ≡ integrators s vs f k
+  unfolding integrators
+  integrators-order List·Permᴰ·nil g f k = refl
+  integrators-order (List·Permᴰ·cons {a = a} {l₁ = us} {l₂ = vs} e d) g f k =
+      integrated-agree (a * s) (integrators s us f) (integrators s vs f) k (λ j l. integrators-order d (rest-pos a us g) f j)
+      ∙ ap (λ u. integrated (u * s) (integrators s vs f) k) e
+  integrators-order (List·Permᴰ·swap {a = a} {b = b} {l = us} e d) g f k =
+      integrated-comm (a * s) (b * s) (integrators s us f) k (mul-pos (first-pos a (b ∷ us) g) h) (mul-pos (first-pos b us (rest-pos a (b ∷ us) g)) h)
+      ∙ ap₂ (λ u v. integrated (u * s) (integrated (v * s) (integrators s us f)) k) d e
+  integrators-order (List·Permᴰ·trans d e) g f k =
+      integrators-order d g f k ∙ integrators-order e (le-trans g (le-of-eq (product-order d))) f k
+
+  -- an integrator may be moved to the front
+  integrators-inside : (t : ℕ) (us : List ℕ) (f : ℕ → ℕ) (k : ℕ) → 0 < t → 0 < product us
+      → integrated t (integrators s us f) k ≡ integrators s us (integrated t f) k
+  unfolding integrators
+  integrators-inside t [] f k g p = refl
+  integrators-inside t (u ∷ us) f k g p =
+      integrated-comm t (u * s) (integrators s us f) k g (mul-pos (first-pos u us p) h)
+      ∙ integrated-agree (u * s) (integrated t (integrators s us f)) (integrators s us (integrated t f)) k
+      (λ j l. integrators-inside t us f j g (rest-pos u us p))
+
+  -- A cascade undone: for each box there is left the integrator with the spread of the boxes.
+  pub cascade-undone : (ns : List ℕ) (f : ℕ → ℕ) (k : ℕ) → 0 < product ns → integrators s ns (cascaded s ns f) k ≡ integrators s (replicate (length ns) 1) f k
+  unfolding integrators cascaded
+  cascade-undone [] f k g = refl
+  cascade-undone (n ∷ ns) f k g =
+      let left : List ℕ = replicate (length ns) 1 in
+      let e : 1 * s ≡ s = one-mul s in
+      let n-pos = first-pos n ns g in
+      integrated-agree (n * s) (integrators s ns (cascaded s ns (spread s n f))) (integrators s left (spread s n f)) k
+      (λ j l. cascade-undone ns (spread s n f) j (rest-pos n ns g))
+      ∙ integrators-inside (n * s) left (spread s n f) k (mul-pos n-pos h) (ones-pos (length ns))
+      ∙ integrators-agree s left (integrated (n * s) (spread s n f)) (integrated s f) k (λ j l. integrated-box s n f j h n-pos)
+      ∙ sym (integrators-inside s left f k h (ones-pos (length ns)))
+      ∙ ap (λ t. integrated t (integrators s left f) k) (sym e)
+
+-- The product of integrators on a sequence that begins with 1 tells how often each number occurs in their list: at u s it is what the
+-- smaller numbers give there, and one more for each u.
+unfoldable below : ℕ → List ℕ → List ℕ
+below u us = keep (λ v. ltb v u) us
+
+module _ (s : ℕ) (h : 0 < s) (f : ℕ → ℕ) where
+  -- an integrator changes nothing nearer the start than its spread
+  near : (v : ℕ) (g : ℕ → ℕ) (k : ℕ) → 0 < v → k < v * s → integrated (v * s) g k ≡ g k
+  near v g k p l = omega (arith, integrated-step (v * s) g k (mul-pos p h), behind-before (integrated (v * s) g) (v * s) k l)
+
+  start : (us : List ℕ) → 0 < product us → integrators s us f 0 ≡ f 0
+  unfolding integrators
+  start [] p = refl
+  start (u ∷ us) p =
+      near u (integrators s us f) 0 (first-pos u us p) (mul-pos (first-pos u us p) h) ∙ start us (rest-pos u us p)
+
+  -- before u s only the smaller numbers count
+  before : (u : ℕ) (us : List ℕ) (k : ℕ) → 0 < product us → k < u * s → integrators s us f k ≡ integrators s (below u us) f k
+  unfolding integrators below keep
+  before u [] k p l = refl
+  before u (v ∷ us) k p l =
+      elim (decLt v u) [
+        | yes g ↦
+            rw (lt-ltb v u g)
+            (integrated-agree (v * s) (integrators s us f) (integrators s (below u us) f) k (λ j i. before u us j (rest-pos v us p) (omega arith)))
+        | no g ↦
+            let m : u ≤ v = omega arith in
+            rw (le-ltb v u m)
+            (near v (integrators s us f) k (first-pos v us p) (omega (arith, mul-le-mul-right s m)) ∙ before u us k (rest-pos v us p) l)
+      ]
+
+  none : (n : ℕ) → occurs n [] ≡ 0
+  unfolding occurs total
+  none n = refl
+
+  module _ (one : f 0 ≡ 1) where
+    counted : (u : ℕ) (us : List ℕ) → 0 < product us → integrators s us f (u * s) ≡ integrators s (below u us) f (u * s) + occurs u us
+    unfolding integrators below keep
+    counted u [] p = omega (arith, none u)
+    counted u (v ∷ us) p =
+        let all = integrators s us f in
+        let some = integrators s (below u us) f in
+        let v-pos = first-pos v us p in
+        let rest = counted u us (rest-pos v us p) in
+        let step = integrated-step (v * s) all (u * s) (mul-pos v-pos h) in
+        elim (decLt v u) [
+          | yes g ↦
+              let l : v * s < u * s = mul-lt-mul-of-pos-right g h in
+              let back : integrated (v * s) all (u * s - v * s) ≡ integrated (v * s) some (u * s - v * s) =
+              integrated-agree (v * s) all some (u * s - v * s) (λ j i. before u us j (rest-pos v us p) (omega (arith, mul-pos v-pos h))) in
+              rw (lt-ltb v u g)
+              (omega (
+                arith,
+                step,
+                integrated-step (v * s) some (u * s) (mul-pos v-pos h),
+                behind-within (integrated (v * s) all) (v * s) (u * s) (omega arith),
+                behind-within (integrated (v * s) some) (v * s) (u * s) (omega arith),
+                back,
+                rest,
+                occurs-other u v us (λ e. omega arith),
+              ))
+          | no g ↦
+              let m : u ≤ v = omega arith in
+              rw (le-ltb v u m)
+              (elim (decLt u v) [
+                | yes l ↦
+                    omega (arith, near v all (u * s) v-pos (mul-lt-mul-of-pos-right l h), rest, occurs-other u v us (λ e. omega arith))
+                | no l ↦
+                    let e : v ≡ u = omega arith in
+                    let z : u * s - v * s ≡ 0 = omega (arith, ap (λ w. w * s) e) in
+                    omega (
+                      arith,
+                      step,
+                      behind-within (integrated (v * s) all) (v * s) (u * s) (omega (arith, ap (λ w. w * s) e)),
+                      ap (integrated (v * s) all) z,
+                      near v all 0 v-pos (mul-pos v-pos h),
+                      start us (rest-pos v us p),
+                      one,
+                      rest,
+                      occurs-here u v us e,
+                    )
+              ])
+        ]
+
+    module _ (us vs : List ℕ) (p : 0 < product us) (q : 0 < product vs) (e : (k : ℕ) → integrators s us f k ≡ integrators s vs f k) where
+      -- as often, where the smaller numbers do
+      next : (u : ℕ) → ((v : ℕ) → v < u → occurs v us ≡ occurs v vs) → occurs u us ≡ occurs u vs
+      unfolding below
+      next u i =
+          let smaller : Balanced (below u us) (below u vs) =
+          λ v.
+          occurs-keep (λ w. ltb w u) v us
+          ∙ elim (decLt v u) [
+            | yes l ↦ ap (λ k. cond (ltb v u) k 0) (i v l)
+            | no l ↦ let m : u ≤ v = omega arith in rw (le-ltb v u m) refl
+          ]
+          ∙ sym (occurs-keep (λ w. ltb w u) v vs) in
+          omega (
+            arith,
+            counted u us p,
+            counted u vs q,
+            e (u * s),
+            integrators-order s h (balanced-order (below u us) (below u vs) smaller) (keep-pos (λ v. ltb v u) us p) f (u * s),
+          )
+
+      pub integrators-counts : Balanced us vs
+      integrators-counts n = upto (suc n) n (le-refl (suc n))
+        where
+          upto : (u v : ℕ) → v < u → occurs v us ≡ occurs v vs
+          upto zero v l = absurd (omega arith)
+          upto (suc u) v l =
+              elim (decLt v u) [
+                | yes g ↦ upto u v g
+                | no g ↦
+                    let d : u ≡ v = omega arith in
+                    next v (λ w i. upto u w (omega arith))
+              ]
