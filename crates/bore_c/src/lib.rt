@@ -3,18 +3,21 @@
 // number, 0 where it is accepted. On a refusal nothing else is written, but for the fields that stand
 // beside the number: the state of a refused start, of zeros, and the count of a refused row call or drain.
 ghost use mathlib.Core.Path.{_≡_};
+ghost use mathlib.Core.Bool.{cond};
 ghost use Rattle.spec.specs.Words.{part};
 ghost use Rattle.spec.specs.Recipe.{recipe, order, gain};
 ghost use Rattle.spec.specs.Picture.{fullWidth, fullHeight};
 ghost use Rattle.spec.specs.Stream.{streamCells};
 ghost use Rattle.spec.specs.Gray.{variance};
-ghost use Rattle.spec.specs.Refusals.{first, lent, recipeChecks, sizeChecks, cellChecks};
+ghost use Rattle.spec.specs.Same.{equivalent};
+ghost use Rattle.spec.specs.Refusals.{first, lent, recipeChecks, sizeChecks, cellChecks, compareChecks};
 ghost use Rattle.spec.specs.Picture.{picture};
 ghost use Rattle.filter.specs.Filled.{Filled};
 ghost use Rattle.direct.specs.Formed.{Formed};
 ghost use Rattle.passes.specs.Passed.{Passed};
 ghost use Rattle.stream.specs.Calls.{start, push, drain};
 ghost use Rattle.bore_c.specs.Given.{given, givenState, began, called};
+use equivalence::Comparison;
 use filter::Card;
 use filter::Cells;
 use filter::FullSize;
@@ -153,6 +156,39 @@ pub extern "C" fn bore_moments(
             *column_order = scale.column_order;
             *row_variance = scale.row_variance;
             *column_variance = scale.column_variance;
+            0
+        }
+    }
+}
+
+// Whether two recipes are the same, 1 or 0: the first's 1 to 4, then the second's.
+#[no_mangle]
+pub extern "C" fn bore_equivalent(
+    a_row_count: u8,
+    a_rows: &[u8; 48],
+    a_column_count: u8,
+    a_columns: &[u8; 48],
+    b_row_count: u8,
+    b_rows: &[u8; 48],
+    b_column_count: u8,
+    b_columns: &[u8; 48],
+    same: &mut u8,
+) -> u8
+    ensures { λ r. let a = given «a_row_count» (now («a_rows» .entry)) «a_column_count» (now («a_columns» .entry)) in
+        let b = given «b_row_count» (now («b_rows» .entry)) «b_column_count» (now («b_columns» .entry)) in let cs = compareChecks a b in
+        ⌜ (r ≡ first cs) × (now (same .exit) ≡ lent cs (cond (equivalent a b) 1 0) (now (same .entry))) ⌝ }
+{
+    let a = filter_of(a_row_count, a_rows, a_column_count, a_columns);
+    let b = filter_of(b_row_count, b_rows, b_column_count, b_columns);
+    let answer = equivalence::equivalent(a, b);
+    match answer {
+        Comparison::Refused(number) => number,
+        Comparison::Same => {
+            *same = 1;
+            0
+        }
+        Comparison::Different => {
+            *same = 0;
             0
         }
     }

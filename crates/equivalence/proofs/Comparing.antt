@@ -36,11 +36,9 @@ module _ (a b : Filter) (n : ℕ) (e : n ≡ first (compareChecks (recipe a) (re
   none : (first (recipeChecks (recipe a)) ≡ 0) × (first (recipeChecks (recipe b)) ≡ 0)
   none = both-accepted (recipe a) (recipe b) (sym e ∙ z)
 
-  pub row-counts : (a .rows .count ≤ 48) × (b .rows .count ≤ 48)
-  row-counts = (counts a (none .0) .0, counts b (none .1) .0)
-
-  pub column-counts : (a .columns .count ≤ 48) × (b .columns .count ≤ 48)
-  column-counts = (counts a (none .0) .1, counts b (none .1) .1)
+  -- no list is longer than 48
+  pub lists-short : ((a .rows .count ≤ 48) × (a .columns .count ≤ 48)) × ((b .rows .count ≤ 48) × (b .columns .count ≤ 48))
+  lists-short = (counts a (none .0), counts b (none .1))
 
   -- the answer by what the comparisons of the rows and of the columns answered
   pub answered : (q r : Bool) → q ≡ sameCounts (widths (a .rows)) (widths (b .rows)) → r ≡ sameCounts (widths (a .columns)) (widths (b .columns))

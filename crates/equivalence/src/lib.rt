@@ -51,13 +51,13 @@ fn agree(list: Cascade, a: &[u8; 256], b: &[u8; 256]) -> bool
     ensures { λ r. ⌜ r ≡ everywhere (alike (now (a .entry)) (now (b .entry))) (widths list) ⌝ }
 {
     let count = list.count as usize;
-    let mut i: usize = 0;
-    while i < count {
-        let n = place(list.widths[i]);
+    let mut k: usize = 0;
+    while k < count {
+        let n = place(list.widths[k]);
         if a[n] != b[n] {
             return false;
         }
-        i += 1;
+        k += 1;
     }
     true
 }

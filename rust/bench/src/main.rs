@@ -8,12 +8,15 @@
 
 mod convolution;
 mod direct;
+mod equivalent;
 mod passes;
 mod stream;
 mod timing;
 mod work;
 
+use bore::Filter;
 use convolution::{Conventional, TwoSteps};
+use std::hint::black_box;
 use timing::alternate;
 use work::Work;
 
@@ -122,6 +125,54 @@ fn widths() {
     }
 }
 
+/// The widths above 1 that the comparing call gets each way; ones make them 48.
+const COMPARED: [u8; 15] = [2, 2, 2, 2, 2, 2, 2, 2, 3, 3, 3, 3, 4, 4, 5];
+
+/// The pairs for which the comparing call is made in one run. The milliseconds
+/// of a thousand calls are the microseconds of one.
+const PAIRS: usize = 1000;
+
+/// The comparing call of the library, or that in Rust.
+type Comparing = fn(&Filter, &Filter, &mut u8) -> u8;
+
+fn compare_all(pairs: &[[Filter; 2]], call: Comparing) {
+    for [a, b] in pairs {
+        let mut same = 7;
+        let number = call(black_box(a), black_box(b), &mut same);
+        assert_eq!((number, same), (0, 1), "the two are equal");
+    }
+}
+
+/// Both calls have to agree on pairs that are equal, unequal and refused: a
+/// width of each pair becomes 0, 1, 2 and 6.
+fn have_to_agree(pairs: &[[Filter; 2]]) {
+    let calls: [Comparing; 2] = [bore::equivalent, equivalent::equivalent];
+    for (k, [a, b]) in pairs.iter().enumerate() {
+        for n in [0, 1, 2, 6] {
+            let mut b = *b;
+            b.rows.widths[k % 48] = n;
+            let [library, rust] = calls.map(|call| {
+                let mut same = 7;
+                (call(a, &b, &mut same), same)
+            });
+            assert_eq!(library, rust, "comparing call, {a:?}, {b:?}");
+        }
+    }
+}
+
+/// The comparing call of the library beside the same work in Rust.
+fn comparing() {
+    let pairs = equivalent::shuffled_pairs(&COMPARED, PAIRS);
+    have_to_agree(&pairs);
+    let [a, b] = alternate([&mut || compare_all(&pairs, bore::equivalent), &mut || {
+        compare_all(&pairs, equivalent::equivalent)
+    }]);
+    println!("| Comparing call | Library, µs | Rust, µs | Library / Rust |");
+    println!("|---|---|---|---|");
+    let name = "48 widths each way, shuffled, equal";
+    println!("| {name} | {a:.3} | {b:.3} | {:.2} |", a / b);
+}
+
 fn main() {
     println!("Picture of 1,024 by 1,024. Times in milliseconds, the least of several runs");
     println!("in alternation. Both sides are built for release, and the buffers are warm:");
@@ -137,4 +188,6 @@ fn main() {
     conventional();
     println!();
     widths();
+    println!();
+    comparing();
 }

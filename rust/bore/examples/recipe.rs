@@ -3,22 +3,10 @@
 //!
 //! Usage: recipe ROWS COLUMNS WIDTH HEIGHT, the lists as widths with commas, `-` for an empty list.
 
-use bore::{Cascade, Filter, Moments};
+mod lists;
 
-fn cascade(text: &str) -> Option<Cascade> {
-    let mut list = Vec::new();
-    if text != "-" {
-        for word in text.split(',') {
-            list.push(word.parse::<u8>().ok()?);
-        }
-    }
-    let mut widths = [0; 48];
-    for (place, n) in widths.iter_mut().zip(&list) {
-        *place = *n;
-    }
-    let count = u8::try_from(list.len()).ok()?;
-    Some(Cascade { count, widths })
-}
+use bore::{Cascade, Filter, Moments};
+use lists::filter;
 
 fn coefficients(list: &Cascade, order: usize) -> String {
     let mut out = vec![0; order + 1];
@@ -56,10 +44,7 @@ fn main() {
         let [rows, columns, width, height] = words.as_slice() else {
             return None;
         };
-        let filter = Filter {
-            rows: cascade(rows)?,
-            columns: cascade(columns)?,
-        };
+        let filter = filter(rows, columns)?;
         Some((filter, width.parse().ok()?, height.parse().ok()?))
     };
     match read() {

@@ -111,6 +111,22 @@ pub fn moments(filter: &Filter, moments: &mut Moments) -> u8 {
     )
 }
 
+/// Whether two filters are equal (document 01: the comparing call): `same`
+/// becomes 1 where they are, else 0; refusals 1 to 4 of `a`, then those of `b`.
+pub fn equivalent(a: &Filter, b: &Filter, same: &mut u8) -> u8 {
+    raw::bore_equivalent(
+        a.rows.count,
+        &a.rows.widths,
+        a.columns.count,
+        &a.columns.widths,
+        b.rows.count,
+        &b.rows.widths,
+        b.columns.count,
+        &b.columns.widths,
+        same,
+    )
+}
+
 /// Every exact sum as it is defined (document 01: direct), with the
 /// coefficients in two slices of exactly each order + 1 and the sums in an
 /// output of exactly the grown size; refusals 1 to 7.

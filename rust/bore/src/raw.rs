@@ -52,6 +52,18 @@ unsafe extern "C" {
         column_variance: &mut f64,
     ) -> u8;
 
+    pub safe fn bore_equivalent(
+        a_row_count: u8,
+        a_rows: &[u8; 48],
+        a_column_count: u8,
+        a_columns: &[u8; 48],
+        b_row_count: u8,
+        b_rows: &[u8; 48],
+        b_column_count: u8,
+        b_columns: &[u8; 48],
+        same: &mut u8,
+    ) -> u8;
+
     fn bore_direct(
         row_count: u8,
         rows: &[u8; 48],

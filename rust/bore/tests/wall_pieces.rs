@@ -1,6 +1,7 @@
 //! The fixed cases of document 01 ("Wall pieces to try", "Mistakes that look
-//! harmless") that concern the calls on a filter and the exact sums, these by
-//! all three methods, and the triangle of source document 001.
+//! harmless") that concern the calls on a filter, the comparing call and the
+//! exact sums, these by all three methods, and the triangle of source document
+//! 001.
 
 mod common;
 
@@ -27,6 +28,25 @@ fn full_size(filter: &Filter, width: usize, height: usize) -> (u8, usize, usize)
     (number, full_width, full_height)
 }
 
+/// The answer of the comparing call for two accepted filters, which is the same
+/// both ways round.
+fn equal(a: &Filter, b: &Filter) -> bool {
+    let [mut there, mut back] = [7, 7];
+    assert_eq!(bore::equivalent(a, b, &mut there), 0, "{a:?}, {b:?}");
+    assert_eq!(bore::equivalent(b, a, &mut back), 0, "{a:?}, {b:?}");
+    assert_eq!(there, back, "{a:?}, {b:?}");
+    assert!(there <= 1, "{there}, {a:?}, {b:?}");
+    there == 1
+}
+
+/// That answer for two lists along the rows, which is the same down the columns.
+fn equal_lists(a: &[u8], b: &[u8]) -> bool {
+    let along = equal(&filter(a, &[]), &filter(b, &[]));
+    let down = equal(&filter(&[], a), &filter(&[], b));
+    assert_eq!(along, down, "{a:?}, {b:?}");
+    along
+}
+
 /// The exact sums of an accepted picture, by all three methods.
 fn sums(rows: &[u8], columns: &[u8], width: usize, height: usize, pixels: &[u8]) -> Vec<u64> {
     let found = three_methods(&filter(rows, columns), width, height, pixels);
@@ -51,6 +71,56 @@ fn same_reach_and_weight_but_other_coefficients() {
         assert_eq!(kernel[..3], begin);
         assert_eq!(kernel.len(), 12);
         assert_eq!(moments(&filter(&list, &[])).gain, 72);
+    }
+}
+
+#[test]
+fn equal_and_unequal_recipes() {
+    assert!(equal_lists(&[3, 2], &[2, 3]));
+    assert!(!equal_lists(&[4], &[2, 2]));
+    assert!(equal_lists(&[1], &[]));
+    assert!(!equal_lists(&[2, 6, 6], &[3, 3, 8]));
+    assert!(equal_lists(&[2, 2, 2, 2], &[2, 2, 2, 2]));
+    assert!(!equal_lists(&[2, 2, 2, 2], &[2, 2, 2]));
+}
+
+#[test]
+fn rows_are_not_columns() {
+    assert!(!equal(&filter(&[2, 3], &[]), &filter(&[], &[2, 3])));
+    assert!(!equal(&filter(&[3], &[2]), &filter(&[2], &[3])));
+    assert!(!equal(&filter(&[2, 2], &[2, 2]), &filter(&[2, 2], &[])));
+    assert!(equal(&filter(&[3, 2], &[2, 1]), &filter(&[2, 3], &[2])));
+}
+
+/// Neither the scale card nor the number of widths decides, on both axes
+/// together.
+#[test]
+fn reach_weight_and_count_do_not_decide() {
+    let [a, b] = [
+        filter(&[2, 6, 6], &[3, 3, 8]),
+        filter(&[3, 3, 8], &[2, 6, 6]),
+    ];
+    assert!(!equal(&a, &b));
+    // These have the same variance too.
+    let lists = [[2, 6, 7, 15], [3, 3, 10, 14]];
+    let [a, b] = lists.map(|list| filter(&list, &[]));
+    assert_eq!(moments(&a), moments(&b));
+    assert!(!equal(&a, &b));
+}
+
+#[test]
+fn the_first_recipe_is_refused_before_the_second() {
+    let blur = filter(&[2, 2], &[2, 2]);
+    let [far, heavy] = [filter(&[255, 3], &[]), filter(&[2; 23], &[2; 22])];
+    for (a, b, number) in [
+        (&far, &blur, 3),
+        (&blur, &far, 3),
+        (&heavy, &far, 4),
+        (&far, &heavy, 3),
+    ] {
+        let mut same = 7;
+        assert_eq!(bore::equivalent(a, b, &mut same), number);
+        assert_eq!(same, 7);
     }
 }
 

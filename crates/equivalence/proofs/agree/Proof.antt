@@ -1,4 +1,4 @@
--- `equivalence::agree` meets its contract: after i widths those before agreed.
+-- `equivalence::agree` meets its contract: after k widths those before agreed.
 -- Assumes nothing.
 use mathlib.Core.Path.{refl}
 use Prim.Native.Nat.{_-_}
@@ -10,10 +10,10 @@ use Rattle.equivalence.proofs.agree.Statement.{statement}
 use Rattle.equivalence.proofs.agree.Tie as tie
 
 abbrev Inv-loop : tie.InvT-loop
-Inv-loop a b list count i₀ i = Checked (alike a b) list count i
+Inv-loop a b list count k₀ k = Checked (alike a b) list count k
 
 abbrev μ-loop : tie.MeasureT-loop
-μ-loop a b list count i₀ i = count - i
+μ-loop a b list count k₀ k = count - k
 
 cast-count : tie.Need-cast-count Inv-loop μ-loop
 cast-count c = search needs
@@ -38,10 +38,10 @@ returns c =
     let turn = c .before .before .before .before .before .before .loop in
     let start = c .before .before .before .before .before .before .before in
     let place = c .before .before .before .place in
-    checked-not (alike (start .args .a .now) (start .args .b .now)) (start .args .t1) _ (turn .i) (turn .inv) (search needs) (start .pre) (place .result) (place .ensures .0) (ne-eqb _ _ (c .if1 .taken))
+    checked-not (alike (start .args .a .now) (start .args .b .now)) (start .args .t1) _ (turn .k) (turn .inv) (search needs) (start .pre) (place .result) (place .ensures .0) (ne-eqb _ _ (c .if1 .taken))
 
-add-i : tie.Need-add-i Inv-loop μ-loop
-add-i c = search needs
+add-k : tie.Need-add-k Inv-loop μ-loop
+add-k c = search needs
 
 loop-less : tie.Need-loop-less Inv-loop μ-loop
 loop-less c = search needs
@@ -51,13 +51,13 @@ loop-again c =
     let turn = c .before .before .before .before .before .before .loop in
     let start = c .before .before .before .before .before .before .before in
     let place = c .before .before .before .place in
-    checked-more (alike (start .args .a .now) (start .args .b .now)) (start .args .t1) _ (turn .i) (turn .inv) (search needs) (start .pre) (place .result) (place .ensures .0) (eq-eqb _ _ (c .if1 .left))
+    checked-more (alike (start .args .a .now) (start .args .b .now)) (start .args .t1) _ (turn .k) (turn .inv) (search needs) (start .pre) (place .result) (place .ensures .0) (eq-eqb _ _ (c .if1 .left))
 
 returns-2 : tie.Need-returns-2 Inv-loop μ-loop
 returns-2 c =
     let start = c .before .before in
     let turn = c .before .loop in
-    checked-all (alike (start .args .a .now) (start .args .b .now)) (start .args .t1) _ (turn .i) (turn .inv) (c .loop-test .left)
+    checked-all (alike (start .args .a .now) (start .args .b .now)) (start .args .t1) _ (turn .k) (turn .inv) (c .loop-test .left)
 
 pub agree-spec : {M : Type 1} → statement M
 agree-spec =
@@ -72,7 +72,7 @@ agree-spec =
     element-copy-out-if1
     element-copy-out-if1-2
     returns
-    add-i
+    add-k
     loop-less
     loop-again
     returns-2)

@@ -8,7 +8,7 @@ use Rattle.spec.specs.Recipe.{recipe, widths}
 use Rattle.spec.specs.Same.{sameCounts, equivalent}
 use Rattle.spec.specs.Refusals.{compareChecks}
 use Rattle.laws.proofs.Refusals.{answer-refused}
-use Rattle.equivalence.proofs.Comparing.{row-counts, column-counts, answered}
+use Rattle.equivalence.proofs.Comparing.{lists-short, answered}
 use Rattle.equivalence.proofs.equivalent.Statement.{statement}
 use Rattle.equivalence.proofs.equivalent.Tie as tie
 
@@ -25,13 +25,15 @@ same-counts-requires : tie.Need-same-counts-requires
 same-counts-requires c κs =
     let args = c .before .before .args in
     let number = c .before .refusal in
-    row-counts (args .a) (args .b) (number .result) (number .ensures) (c .if1 .left)
+    let short = lists-short (args .a) (args .b) (number .result) (number .ensures) (c .if1 .left) in
+    search needs
 
 same-counts-requires-2 : tie.Need-same-counts-requires-2
 same-counts-requires-2 c κs =
-    let start = c .before .before .before in
-    let args = start .before .args in
-    column-counts (args .a) (args .b) (start .refusal .result) (start .refusal .ensures) (c .before .before .if1 .left)
+    let number = c .before .before .before .refusal in
+    let args = c .before .before .before .before .args in
+    let short = lists-short (args .a) (args .b) (number .result) (number .ensures) (c .before .before .if1 .left) in
+    search needs
 
 returns-2 : tie.Need-returns-2
 returns-2 c =

@@ -1,6 +1,6 @@
-//! One function for each call on a filter: it makes the call for a case's
-//! filter and for the twin, compares the number and all that was lent with the
-//! reference, and returns the number.
+//! One function for each call on a filter or on two: it makes the call for a
+//! case's filter and for the twin, compares the number and all that was lent
+//! with the reference, and returns the number.
 //!
 //! What is lent holds random bits before the call and stands in the middle of
 //! other random bits. The whole is compared, so a refused call has to leave
@@ -126,4 +126,28 @@ pub fn moments(case: &Case, random: &mut Random) -> u8 {
         assert_eq!(found.map(bits), expected_moments.map(bits), "{note}");
     }
     number(&expected)
+}
+
+/// What the comparing call says: the answer, or the number.
+pub type Answer = Result<bool, u8>;
+
+/// The call for two cases: either filter of the one beside either of the other.
+/// The lent byte is no answer before the call.
+pub fn equivalent(a: &Case, b: &Case, random: &mut Random) -> Answer {
+    let expected = reference::same(&a.recipe(), &b.recipe());
+    let bytes = [(); 3].map(|_| random.between(2, 255) as u8);
+    let mut expected_bytes = bytes;
+    if let Ok(same) = expected {
+        expected_bytes[1] = u8::from(same);
+    }
+    for one in a.both() {
+        for other in b.both() {
+            let mut found = bytes;
+            let refusal = bore::equivalent(one, other, &mut found[1]);
+            let note = format_args!("equivalent, {a:?}, {b:?}");
+            assert_eq!(refusal, number(&expected), "{note}");
+            assert_eq!(found, expected_bytes, "{note}");
+        }
+    }
+    expected
 }

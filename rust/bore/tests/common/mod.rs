@@ -1,9 +1,10 @@
 //! What the comparison tests share: the change from the library's form of a
 //! filter to the reference's, many random filters near all limits, in
-//! `pictures` random pictures, and the comparison of each call with the
-//! reference: in `agree` the calls on a filter, in `agree_methods` direct and
-//! pass by pass, in `agree_stream` the one pass, whose work cells `cells` models.
-//! `three` has all three methods for tests of the sums alone.
+//! `pictures` random pictures, in `pairs` and `near_misses` pairs of recipes,
+//! and the comparison of each call with the reference: in `agree` the calls on
+//! filters, in `agree_methods` direct and pass by pass, in `agree_stream` the
+//! one pass, whose work cells `cells` models. `three` has all three methods for
+//! tests of the sums alone.
 //!
 //! The environment sets the random cases: BORE_CASES is their number for each
 //! test, BORE_SEED the seed of the first; each case has the next seed. A test
@@ -17,6 +18,8 @@ pub mod agree_methods;
 pub mod agree_stream;
 pub mod cells;
 pub mod lent;
+pub mod near_misses;
+pub mod pairs;
 pub mod pictures;
 pub mod three;
 
@@ -64,6 +67,14 @@ pub fn filter(rows: &[u8], columns: &[u8]) -> Filter {
     Filter {
         rows: cascade(rows),
         columns: cascade(columns),
+    }
+}
+
+/// A list on one axis, with no widths on the other.
+pub fn on_axis(list: &[u8], on_rows: bool) -> Filter {
+    match on_rows {
+        true => filter(list, &[]),
+        false => filter(&[], list),
     }
 }
 

@@ -9,7 +9,7 @@ use reference::random::Random;
 const BEFORE: u64 = 0xA5A5_A5A5_A5A5_A5A5;
 
 /// The sums, or the number.
-type Sums = Result<Vec<u64>, u8>;
+pub type Sums = Result<Vec<u64>, u8>;
 
 fn accepted(number: u8) -> Result<(), u8> {
     if number == 0 {
@@ -62,14 +62,19 @@ pub fn stream(filter: &Filter, width: usize, height: usize, pixels: &[u8]) -> Su
     Ok(out)
 }
 
+/// The sums of a picture, or the number, by each method: direct, pass by pass,
+/// one pass.
+pub fn each_method(filter: &Filter, width: usize, height: usize, pixels: &[u8]) -> [Sums; 3] {
+    let methods = [direct, passes, stream];
+    methods.map(|method| method(filter, width, height, pixels))
+}
+
 /// The sums of a picture, or the number, which has to be the same by all three
 /// methods.
 pub fn three_methods(filter: &Filter, width: usize, height: usize, pixels: &[u8]) -> Sums {
-    let found = direct(filter, width, height, pixels);
+    let [found, by_passes, by_stream] = each_method(filter, width, height, pixels);
     let note = format_args!("{width} by {height}, {filter:?}");
-    let by_passes = passes(filter, width, height, pixels);
     assert!(by_passes == found, "direct, pass by pass: {note}");
-    let by_stream = stream(filter, width, height, pixels);
     assert!(by_stream == found, "direct, one pass: {note}");
     found
 }

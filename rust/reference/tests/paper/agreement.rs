@@ -1,7 +1,7 @@
 //! Random pictures: the definition beside other ways to the same numbers, which
 //! are written out here, and the calls beside one another.
 
-use crate::{blur, one_pass, subtract, sums};
+use crate::{blur, columns, one_pass, rows, subtract, sums};
 use reference::random::Random;
 use reference::{
     boresums, coefficients_of, grown_sides, read_job, reading, round_row, same, weight, Choice,
@@ -164,6 +164,43 @@ fn shuffled_recipes_with_ones_are_the_same() {
             }
         }
     }
+}
+
+/// All rising lists of up to three widths from 1 to 9.
+fn short_lists() -> Vec<Vec<u8>> {
+    let mut lists = vec![vec![]];
+    for a in 1..=9 {
+        lists.push(vec![a]);
+        for b in a..=9 {
+            lists.push(vec![a, b]);
+            lists.extend((b..=9).map(|c| vec![a, b, c]));
+        }
+    }
+    lists
+}
+
+/// With widths of 1 struck out, every width occurs as often in the one list as
+/// in the other.
+fn same_counts(x: &[u8], y: &[u8]) -> bool {
+    let count = |list: &[u8], n: u8| list.iter().filter(|&&m| m == n).count();
+    (2..=255).all(|n| count(x, n) == count(y, n))
+}
+
+#[test]
+fn same_coefficients_are_the_same_counts_of_widths() {
+    let lists = short_lists();
+    let mut equal = 0;
+    for x in &lists {
+        for y in &lists {
+            let expected = Ok(same_counts(x, y));
+            assert_eq!(same(&rows(x), &rows(y)), expected, "{x:?}, {y:?}");
+            assert_eq!(same(&columns(x), &columns(y)), expected, "{x:?}, {y:?}");
+            equal += usize::from(expected == Ok(true));
+        }
+    }
+    // With widths of 1 struck out, 4 of the lists are empty, 3 are each one of
+    // 8 widths, 2 each one of 36 pairs, 1 each one of 120 triples.
+    assert_eq!((lists.len(), equal), (220, 352));
 }
 
 #[test]
