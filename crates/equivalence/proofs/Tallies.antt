@@ -1,156 +1,97 @@
--- Loops over the widths of a cascade that tally them and that compare two tallies: what is left to do after i of them.
+-- Tallies of the widths of cascades: the loop that counts them, the loop that compares two tallies, and what the comparison says of the
+-- lists.
 -- Assumes nothing.
-use mathlib.Core.Path.{_≡_, refl, sym, ap, ap₂, _∙_}
-use mathlib.Core.Bool.{Bool, true, false, not, cond, _&&_, and-assoc}
-use mathlib.Core.List.{List, [], _∷_, _++_}
+use mathlib.Core.Path.{_≡_, refl, sym, ap, ap₂, subst, _∙_}
+use mathlib.Core.Bool.{Bool, true, false, cond, _&&_, true≢false}
+use mathlib.Core.List.{List, [], _∷_}
 use Prim.Native.Nat.{ℕ, _+_, _≤_, _<_}
-use native.Mathlib.Nat.{le-refl, le-trans, le-of-eq, one-mul}
+use native.Mathlib.Nat.{le-trans, le-of-eq, one-mul}
 use native.Mathlib.Numerals.{add-one}
+use native.Mathlib.Decide.{decLt}
 use native.Mathlib.Omega.{arith}
 use lib.Dec.{eqb}
 use lib.ListN.{length, getD, drop, set, replicate, length-set, length-replicate, getD-replicate, drop-of-length-le}
 use lib.Seq.{getD-set-same, getD-set-other}
 use borrow.Author.Tests.{eqb-true, eqb-false, lt-ltb, ltb-true}
 use Rattle.spec.specs.declared.Cascade.{Cascade}
-use Rattle.spec.specs.Words.{tab, total, everywhere, keep, occurs}
+use Rattle.spec.specs.Words.{tab, total, everywhere, occurs}
 use Rattle.spec.specs.Recipe.{widths}
 use Rattle.spec.specs.Same.{struck, sameCounts}
-use Rattle.equivalence.specs.Tally.{byte, tallyOf, alike}
+use Rattle.equivalence.specs.Tally.{byte, tallyOf, Alike, Decides}
 use Rattle.laws.proofs.Lists.{getD-tab, total-most}
 use Rattle.laws.proofs.Kernels.{at, holds-tab}
-use Rattle.laws.proofs.Counts.{both, occurs-here, occurs-other, occurs-keep, struck-one, struck-other}
+use Rattle.laws.proofs.Counts.{Balanced, occurs-here, occurs-other, struck-one, struck-other, everywhere-so, same-balanced, balanced-same}
 use Rattle.filter.proofs.Widths.{length-widths, widths-from}
 
--- ---- places in a cascade
+-- ---- the loop that counts the widths
 
-pub record Place (c : Cascade) (count i : ℕ) : Type 0 where
-  pub counted : count ≡ c .count
-  pub array : length (c .widths) ≡ 48
-  pub inside : i ≤ count
-
-module _ (c : Cascade) (count : ℕ) where
-  first-place : count ≡ c .count → length (c .widths) ≡ 48 → Place c count 0
-  first-place e s = record { counted = e; array = s; inside = omega arith }
-
-  next-place : (i : ℕ) → Place c count i → i < count → Place c count (i + 1)
-  next-place i p h = record { counted = p .counted; array = p .array; inside = omega arith }
-
-  -- the width there and those after it, and none after the last
-  here : (i : ℕ) → Place c count i → i < count → c .count ≤ 48 → drop i (widths c) ≡ getD (c .widths) i 0 ∷ drop (i + 1) (widths c)
-  here i p h k =
-      widths-from c i k (p .array) (omega (arith, p .counted)) ∙ ap (λ m. getD (c .widths) i 0 ∷ drop m (widths c)) (sym (add-one i))
-
-  no-more : (i : ℕ) → Place c count i → count ≤ i → drop i (widths c) ≡ []
-  no-more i p h =
-      let past : length (widths c) ≤ i = omega (arith, length-widths c, p .counted) in
-      drop-of-length-le (widths c) past
-
--- ---- a test of each width
-
--- the widths before place i passed the test
-pub record Checked (p : ℕ → Bool) (c : Cascade) (count i : ℕ) : Type 0 where
-  pub place : Place c count i
-  pub is : everywhere p (drop i (widths c)) ≡ everywhere p (widths c)
-
-module _ (p : ℕ → Bool) (c : Cascade) (count : ℕ) where
-  pub checked-none : count ≡ c .count → length (c .widths) ≡ 48 → Checked p c count 0
-  checked-none e s = record { place = first-place c count e s; is = refl }
-
-  module _ (i : ℕ) (t : Checked p c count i) (h : i < count) (k : c .count ≤ 48) (n : ℕ) (e : n ≡ getD (c .widths) i 0) where
-    turn : (q : Bool) → p n ≡ q → (q && everywhere p (drop (i + 1) (widths c))) ≡ everywhere p (widths c)
-    unfolding everywhere
-    turn q d =
-        ap (λ r. r && everywhere p (drop (i + 1) (widths c))) (sym (ap p (sym e) ∙ d))
-        ∙ ap (everywhere p) (sym (here c count i (t .place) h k))
-        ∙ t .is
-
-    pub checked-more : p n ≡ true → Checked p c count (i + 1)
-    checked-more d = record { place = next-place c count i (t .place) h; is = turn true d }
-
-    pub checked-not : p n ≡ false → false ≡ everywhere p (widths c)
-    checked-not d = turn false d
-
-  pub checked-all : (i : ℕ) → Checked p c count i → count ≤ i → true ≡ everywhere p (widths c)
-  unfolding everywhere
-  checked-all i t h = ap (everywhere p) (sym (no-more c count i (t .place) h)) ∙ t .is
-
--- ---- a tally
-
--- how often a width but 1 occurs in a list
-abbrev count-of : ℕ → List ℕ → ℕ
-count-of n ns = occurs n (struck ns)
-
-none-counted : (n : ℕ) → count-of n [] ≡ 0
-unfolding struck keep occurs total
-none-counted n = refl
-
--- no more often than there are widths
-count-most : (n : ℕ) (ns : List ℕ) → count-of n ns ≤ length ns
-unfolding struck occurs
-count-most n ns =
-    le-trans (le-of-eq (occurs-keep (λ m. not (eqb m 1)) n ns))
-    (le-trans (go (not (eqb n 1))) (le-trans (total-most (λ x. cond (eqb x n) 1 0) 1 (λ x. once (eqb x n)) ns) (le-of-eq (one-mul (length ns)))))
+-- a width occurs no more often than there are widths
+occurs-most : (n : ℕ) (ns : List ℕ) → occurs n ns ≤ length ns
+unfolding occurs
+occurs-most n ns = le-trans (total-most (λ x. cond (eqb x n) 1 0) 1 (λ x. once (eqb x n)) ns) (le-of-eq (one-mul (length ns)))
   where
-    go : (b : Bool) → cond b (occurs n ns) 0 ≤ occurs n ns
-    go true = le-refl (occurs n ns)
-    go false = omega arith
-
     once : (b : Bool) → cond b 1 0 ≤ 1
     once true = omega arith
     once false = omega arith
 
--- the widths before place i are in the tally
+none-occurs : (n : ℕ) → occurs n [] ≡ 0
+unfolding occurs total
+none-occurs n = refl
+
+-- After i widths: those from place i on are still to be counted, and to be seen to be bytes.
 pub record Tallied (c : Cascade) (count : ℕ) (counts : List ℕ) (i : ℕ) : Type 0 where
-  pub bytes : Checked byte c count i
+  pub counted : count ≡ c .count
+  pub array : length (c .widths) ≡ 48
+  pub inside : i ≤ count
   pub size : length counts ≡ 256
-  pub is : (n : ℕ) → n < 256 → getD counts n 0 + count-of n (drop i (widths c)) ≡ count-of n (widths c)
+  pub is : (n : ℕ) → n < 256 → getD counts n 0 + occurs n (drop i (widths c)) ≡ occurs n (widths c)
+  pub bytes : everywhere byte (drop i (widths c)) ≡ everywhere byte (widths c)
 
 module _ (c : Cascade) (count : ℕ) where
   pub tallied-none : count ≡ c .count → length (c .widths) ≡ 48 → Tallied c count (replicate 256 0) 0
   tallied-none e s =
       record {
-        bytes = checked-none byte c count e s;
+        counted = e;
+        array = s;
+        inside = omega arith;
         size = length-replicate {A = ℕ} 256 0;
         is = λ n h. omega (arith, getD-replicate {A = ℕ} 256 n 0 0 h);
+        bytes = refl;
       }
 
-  module _ (counts : List ℕ) (i : ℕ) (t : Tallied c count counts i) (h : i < count) (k : c .count ≤ 48) where
-    -- a width of 1 is passed over
-    pub tallied-one : (n : ℕ) → n ≡ getD (c .widths) i 0 → n ≡ 1 → Tallied c count counts (i + 1)
-    tallied-one n e d =
-        record {
-          bytes = checked-more byte c count i (t .bytes) h k n e (lt-ltb n 256 (omega arith));
-          size = t .size;
-          is = λ m l.
-              omega (
-                arith,
-                t .is m l,
-                ap (count-of m) (here c count i (t .bytes .place) h k),
-                ap (occurs m) (struck-one (getD (c .widths) i 0) (drop (i + 1) (widths c)) (sym e ∙ d)),
-              );
-        }
+  module _ (counts : List ℕ) (i : ℕ) (t : Tallied c count counts i) where
+    pub tally-small : c .count ≤ 48 → (n : ℕ) → n < 256 → getD counts n 0 ≤ 48
+    tally-small k n l = omega (arith, t .is n l, occurs-most n (widths c), length-widths c)
 
-    -- any other is counted
-    pub tallied-more : (n : ℕ) → n ≡ getD (c .widths) i 0 → (n ≡ 1 → ⊥) → n < 256 → Tallied c count (set counts n (getD counts n 0 + 1)) (i + 1)
-    tallied-more n e d l =
+    pub tallied-more : i < count → c .count ≤ 48 → (n : ℕ) → n ≡ getD (c .widths) i 0 → n < 256
+        → Tallied c count (set counts n (getD counts n 0 + 1)) (i + 1)
+    unfolding everywhere
+    tallied-more h k n e l =
         record {
-          bytes = checked-more byte c count i (t .bytes) h k n e (lt-ltb n 256 l);
+          counted = t .counted;
+          array = t .array;
+          inside = omega arith;
           size = length-set counts n (getD counts n 0 + 1) ∙ t .size;
           is = λ m g. go m g (eqb n m) refl;
+          bytes =
+              ap (λ b. b && everywhere byte (drop (i + 1) (widths c))) (sym (lt-ltb n 256 l))
+              ∙ ap (everywhere byte) (sym here)
+              ∙ t .bytes;
         }
       where
-        was : struck (drop i (widths c)) ≡ getD (c .widths) i 0 ∷ struck (drop (i + 1) (widths c))
-        was = ap struck (here c count i (t .bytes .place) h k) ∙ struck-other (getD (c .widths) i 0) (drop (i + 1) (widths c)) (λ q. d (e ∙ q))
+        -- the width that is counted, and those after it
+        here : drop i (widths c) ≡ n ∷ drop (i + 1) (widths c)
+        here = widths-from c i k (t .array) (omega (arith, t .counted)) ∙ ap₂ (λ m j. m ∷ drop j (widths c)) (sym e) (sym (add-one i))
 
         go : (m : ℕ) → m < 256 → (b : Bool) → eqb n m ≡ b
-            → getD (set counts n (getD counts n 0 + 1)) m 0 + count-of m (drop (i + 1) (widths c)) ≡ count-of m (widths c)
+            → getD (set counts n (getD counts n 0 + 1)) m 0 + occurs m (drop (i + 1) (widths c)) ≡ occurs m (widths c)
         go m g true q =
             let same : n ≡ m = eqb-true n m q in
             omega (
               arith,
               t .is m g,
-              ap (occurs m) was,
-              occurs-here m (getD (c .widths) i 0) (struck (drop (i + 1) (widths c))) (sym e ∙ same),
+              ap (occurs m) here,
+              occurs-here m n (drop (i + 1) (widths c)) same,
               ap (λ j. getD counts j 0) same,
               ap (λ j. getD (set counts n (getD counts n 0 + 1)) j 0) same,
               getD-set-same counts n (getD counts n 0 + 1) 0 (omega (arith, t .size)),
@@ -160,67 +101,95 @@ module _ (c : Cascade) (count : ℕ) where
             omega (
               arith,
               t .is m g,
-              ap (occurs m) was,
-              occurs-other m (getD (c .widths) i 0) (struck (drop (i + 1) (widths c))) (λ d. other (e ∙ d)),
+              ap (occurs m) here,
+              occurs-other m n (drop (i + 1) (widths c)) other,
               getD-set-other counts n m (getD counts n 0 + 1) 0 (λ d. other (sym d)),
             )
 
-    pub tally-small : (n : ℕ) → n < 256 → getD counts n 0 ≤ 48
-    tally-small n l = omega (arith, t .is n l, count-most n (widths c), length-widths c)
+    -- all are counted, and those of 1 are struck out
+    pub tallied-all : count ≤ i → (set counts 1 0 ≡ tallyOf (widths c)) × (everywhere byte (widths c) ≡ true)
+    unfolding at tallyOf everywhere
+    tallied-all h = (
+      holds-tab (λ n. occurs n (struck (widths c))) (set counts 1 0) (λ n l. go n (omega (arith, length-set counts 1 0, t .size)) (eqb n 1) refl)
+          ∙ ap (λ m. tab m (λ n. occurs n (struck (widths c)))) (length-set counts 1 0 ∙ t .size),
+      sym (t .bytes) ∙ ap (everywhere byte) over,
+    )
+      where
+        over : drop i (widths c) ≡ []
+        over = let past : length (widths c) ≤ i = omega (arith, length-widths c, t .counted) in drop-of-length-le (widths c) past
 
-  pub tallied-all : (counts : List ℕ) (i : ℕ) → Tallied c count counts i → count ≤ i
-      → (counts ≡ tallyOf (widths c)) × (everywhere byte (widths c) ≡ true)
-  unfolding at tallyOf
-  tallied-all counts i t h = (
-    holds-tab (λ n. count-of n (widths c)) counts
-        (λ n l. omega (arith, t .is n (omega (arith, t .size)), ap (count-of n) (no-more c count i (t .bytes .place) h), none-counted n))
-        ∙ ap (λ m. tab m (λ n. count-of n (widths c))) (t .size),
-    sym (checked-all byte c count i (t .bytes) h),
-  )
+        go : (n : ℕ) → n < 256 → (b : Bool) → eqb n 1 ≡ b → getD (set counts 1 0) n 0 ≡ occurs n (struck (widths c))
+        go n l true q =
+            let one : n ≡ 1 = eqb-true n 1 q in
+            ap (λ m. getD (set counts 1 0) m 0) one
+            ∙ getD-set-same counts 1 0 0 (omega (arith, t .size))
+            ∙ sym (ap (λ m. occurs m (struck (widths c))) one ∙ struck-one (widths c))
+        go n l false q =
+            let other : n ≡ 1 → ⊥ = eqb-false n 1 q in
+            getD-set-other counts 1 n 0 0 other
+            ∙ omega (arith, t .is n l, ap (occurs n) over, none-occurs n)
+            ∙ sym (struck-other n (widths c) other)
 
--- ---- two tallies compared
+-- ---- the loop that compares two tallies
 
--- tests that agree on bytes
-everywhere-agree : (p q : ℕ → Bool) (ns : List ℕ) → everywhere byte ns ≡ true → ((n : ℕ) → n < 256 → p n ≡ q n) → everywhere p ns ≡ everywhere q ns
-unfolding everywhere
-everywhere-agree p q [] b e = refl
-everywhere-agree p q (n ∷ ns) b e =
-    let h = both (byte n) (everywhere byte ns) b in
-    ap₂ _&&_ (e n (ltb-true n 256 (h .0))) (everywhere-agree p q ns (h .1) e)
+-- Before place n they agree, or they are known to differ.
+pub record Compared (a b : List ℕ) (same : Bool) (n : ℕ) : Type 0 where
+  pub so : same ≡ true → (k : ℕ) → k < n → getD a k 0 ≡ getD b k 0
+  pub not : same ≡ false → Alike a b → ⊥
 
-everywhere-append : (p : ℕ → Bool) (ns ms : List ℕ) → everywhere p (ns ++ ms) ≡ (everywhere p ns && everywhere p ms)
-unfolding everywhere
-everywhere-append p [] ms = refl
-everywhere-append p (n ∷ ns) ms = ap (λ b. p n && b) (everywhere-append p ns ms) ∙ sym (and-assoc (p n) (everywhere p ns) (everywhere p ms))
+module _ (a b : List ℕ) where
+  pub compared-none : Compared a b true 0
+  compared-none = record { so = λ e k h. absurd (omega arith); not = λ e. absurd (true≢false e) }
 
--- a test that widths of 1 pass
-everywhere-struck : (p : ℕ → Bool) → p 1 ≡ true → (ns : List ℕ) → everywhere p (struck ns) ≡ everywhere p ns
-unfolding everywhere struck keep
-everywhere-struck p o [] = refl
-everywhere-struck p o (n ∷ ns) = go (eqb n 1) refl (everywhere-struck p o ns)
-  where
-    go : (b : Bool) → eqb n 1 ≡ b → everywhere p (struck ns) ≡ everywhere p ns
-        → everywhere p (cond (not b) (n ∷ struck ns) (struck ns)) ≡ (p n && everywhere p ns)
-    go true e i = i ∙ ap (λ b. b && everywhere p ns) (sym (ap p (eqb-true n 1 e) ∙ o))
-    go false e i = ap (λ b. p n && b) i
+  module _ (same : Bool) (n : ℕ) (t : Compared a b same n) where
+    pub compared-same : getD a n 0 ≡ getD b n 0 → Compared a b same (n + 1)
+    compared-same d =
+        record {
+          so = λ e k h. elim (decLt k n) [
+            | yes l ↦ t .so e k l
+            | no l ↦ let is : k ≡ n = omega arith in ap (λ j. getD a j 0) is ∙ d ∙ sym (ap (λ j. getD b j 0) is)
+          ];
+          not = t .not;
+        }
 
--- tallies that agree at the widths of both lists are those of lists with the same counts
-tallies-same : (ns ms : List ℕ) → everywhere byte ns ≡ true → everywhere byte ms ≡ true
-    → (everywhere (alike (tallyOf ns) (tallyOf ms)) ns && everywhere (alike (tallyOf ns) (tallyOf ms)) ms) ≡ sameCounts ns ms
-unfolding tallyOf sameCounts struck
-tallies-same ns ms b d =
-    let p : ℕ → Bool = λ n. eqb (occurs n (struck ns)) (occurs n (struck ms)) in
-    let one : p 1 ≡ true =
-    ap₂ eqb (occurs-keep (λ n. not (eqb n 1)) 1 ns) (occurs-keep (λ n. not (eqb n 1)) 1 ms) in
-    let at-byte : (n : ℕ) → n < 256 → alike (tallyOf ns) (tallyOf ms) n ≡ p n =
-    λ n h. ap₂ eqb (getD-tab 256 (λ k. occurs k (struck ns)) n 0 h) (getD-tab 256 (λ k. occurs k (struck ms)) n 0 h) in
-    ap₂ _&&_
-    (everywhere-agree (alike (tallyOf ns) (tallyOf ms)) p ns b at-byte ∙ sym (everywhere-struck p one ns))
-    (everywhere-agree (alike (tallyOf ns) (tallyOf ms)) p ms d at-byte ∙ sym (everywhere-struck p one ms))
-    ∙ sym (everywhere-append p (struck ns) (struck ms))
+    pub compared-other : n < 256 → (getD a n 0 ≡ getD b n 0 → ⊥) → Compared a b false (n + 1)
+    compared-other h d = record { so = λ e. absurd (true≢false (sym e)); not = λ e q. d (q n h) }
 
--- the answer by what the two comparisons answered
-pub tallies-answer : (ns ms a b : List ℕ) (q r : Bool) → (a ≡ tallyOf ns) × (everywhere byte ns ≡ true) → (b ≡ tallyOf ms) × (everywhere byte ms ≡ true)
-    → q ≡ everywhere (alike a b) ns → r ≡ everywhere (alike a b) ms → (q && r) ≡ sameCounts ns ms
-tallies-answer ns ms a b q r d e x y =
-    ap₂ _&&_ x y ∙ ap₂ (λ v w. everywhere (alike v w) ns && everywhere (alike v w) ms) (d .0) (e .0) ∙ tallies-same ns ms (d .1) (e .1)
+    pub compared-all : 256 ≤ n → Decides same (Alike a b)
+    compared-all h = record { so = λ e k l. t .so e k (omega arith); not = t .not }
+
+-- ---- what the comparison says of the lists
+
+module _ (ns ms : List ℕ) (x : everywhere byte ns ≡ true) (y : everywhere byte ms ≡ true) where
+  -- a width that is no byte occurs in neither list
+  no-byte : (n : ℕ) → 256 ≤ n → (ks : List ℕ) → everywhere byte ks ≡ true → occurs n (struck ks) ≡ 0
+  no-byte n h ks e =
+      struck-other n ks (λ q. omega arith)
+      ∙ elim (decLt 0 (occurs n ks)) [
+        | yes l ↦ absurd (omega (arith, ltb-true n 256 (everywhere-so byte ks e n l)))
+        | no l ↦ omega arith
+      ]
+
+  tallies-balanced : Alike (tallyOf ns) (tallyOf ms) → Balanced (struck ns) (struck ms)
+  unfolding tallyOf
+  tallies-balanced e n =
+      elim (decLt n 256) [
+        | yes h ↦ sym (getD-tab 256 (λ k. occurs k (struck ns)) n 0 h) ∙ e n h ∙ getD-tab 256 (λ k. occurs k (struck ms)) n 0 h
+        | no h ↦ no-byte n (omega arith) ns x ∙ sym (no-byte n (omega arith) ms y)
+      ]
+
+  balanced-tallies : Balanced (struck ns) (struck ms) → Alike (tallyOf ns) (tallyOf ms)
+  unfolding tallyOf
+  balanced-tallies b n h = getD-tab 256 (λ k. occurs k (struck ns)) n 0 h ∙ b n ∙ sym (getD-tab 256 (λ k. occurs k (struck ms)) n 0 h)
+
+  tallies-same : (told : Bool) → Decides told (Alike (tallyOf ns) (tallyOf ms)) → told ≡ sameCounts ns ms
+  tallies-same true d = sym (balanced-same ns ms (tallies-balanced (d .so refl)))
+  tallies-same false d = go (sameCounts ns ms) refl
+    where
+      go : (q : Bool) → sameCounts ns ms ≡ q → false ≡ q
+      go true e = absurd (d .not refl (balanced-tallies (same-balanced ns ms e)))
+      go false e = refl
+
+pub tallies-answer : (ns ms a b : List ℕ) (told : Bool) → (a ≡ tallyOf ns) × (everywhere byte ns ≡ true) → (b ≡ tallyOf ms) × (everywhere byte ms ≡ true)
+    → Decides told (Alike a b) → told ≡ sameCounts ns ms
+tallies-answer ns ms a b told x y d = tallies-same ns ms (x .1) (y .1) told (subst (Decides told) (ap₂ Alike (x .0) (y .0)) d)

@@ -8,7 +8,7 @@ ghost use Rattle.spec.specs.Recipe.{recipe, widths};
 ghost use Rattle.spec.specs.Same.{sameCounts};
 ghost use Rattle.spec.specs.Refusals.{first, compareChecks};
 ghost use Rattle.equivalence.specs.Compared.{Compared};
-ghost use Rattle.equivalence.specs.Tally.{byte, tallyOf, alike};
+ghost use Rattle.equivalence.specs.Tally.{byte, tallyOf, Alike, Decides};
 use filter::check;
 use spec::Cascade;
 use spec::Filter;
@@ -37,29 +37,26 @@ fn tally(list: Cascade) -> [u8; 256]
     let mut i: usize = 0;
     while i < count {
         let n = place(list.widths[i]);
-        if n != 1 {
-            counts[n] += 1;
-        }
+        counts[n] += 1;
         i += 1;
     }
+    counts[1] = 0;
     counts
 }
 
-// Whether two tallies agree at each width of a cascade.
-fn agree(list: Cascade, a: &[u8; 256], b: &[u8; 256]) -> bool
-    requires { ⌜ list .count ≤ 48 ⌝ }
-    ensures { λ r. ⌜ r ≡ everywhere (alike (now (a .entry)) (now (b .entry))) (widths list) ⌝ }
+// Whether two tallies agree at every width.
+fn agree(a: &[u8; 256], b: &[u8; 256]) -> bool
+    ensures { λ r. ⌜ Decides r (Alike (now (a .entry)) (now (b .entry))) ⌝ }
 {
-    let count = list.count as usize;
-    let mut k: usize = 0;
-    while k < count {
-        let n = place(list.widths[k]);
+    let mut same = true;
+    let mut n: usize = 0;
+    while n < 256 {
         if a[n] != b[n] {
-            return false;
+            same = false;
         }
-        k += 1;
+        n += 1;
     }
-    true
+    same
 }
 
 // Whether every width but 1 occurs as often in one cascade as in another.
@@ -69,11 +66,7 @@ fn same_counts(a: Cascade, b: Cascade) -> bool
 {
     let of_a = tally(a);
     let of_b = tally(b);
-    if agree(a, &of_a, &of_b) {
-        agree(b, &of_a, &of_b)
-    } else {
-        false
-    }
+    agree(&of_a, &of_b)
 }
 
 // The number of the first's 1 to 4 that applies, or else of the second's; 0 where none does.

@@ -98,14 +98,14 @@ balanced-order (n ∷ ns) ms b =
     (List·Permᴰ·cons refl (balanced-order ns (without n ms) (λ k. omega (arith, b k, total-order (λ x. cond (eqb x k) 1 0) front))))
     front
 
--- a width of 1 is struck out, and any other stays
-pub struck-one : (n : ℕ) (ns : List ℕ) → n ≡ 1 → struck (n ∷ ns) ≡ struck ns
-unfolding struck keep
-struck-one n ns e = rw (eq-eqb n 1 e) refl
+-- a width of 1 is struck out, and any other occurs as often as before
+pub struck-one : (ns : List ℕ) → occurs 1 (struck ns) ≡ 0
+unfolding struck
+struck-one ns = occurs-keep (λ n. not (eqb n 1)) 1 ns
 
-pub struck-other : (n : ℕ) (ns : List ℕ) → (n ≡ 1 → ⊥) → struck (n ∷ ns) ≡ n ∷ struck ns
-unfolding struck keep
-struck-other n ns h = rw (ne-eqb n 1 h) refl
+pub struck-other : (n : ℕ) (ns : List ℕ) → (n ≡ 1 → ⊥) → occurs n (struck ns) ≡ occurs n ns
+unfolding struck
+struck-other n ns h = occurs-keep (λ m. not (eqb m 1)) n ns ∙ ap (λ b. cond (not b) (occurs n ns) 0) (ne-eqb n 1 h)
 
 -- Widths of 1 struck out: a total to which they add nothing stays, and the product.
 pub struck-total : (f : ℕ → ℕ) → f 1 ≡ 0 → (ns : List ℕ) → total f (struck ns) ≡ total f ns
@@ -141,7 +141,7 @@ both true b e = (refl, e)
 both false b e = absurd (true≢false (sym e))
 
 -- What the comparison by counts says: every number occurs as often, those that occur nowhere too.
-everywhere-so : (p : ℕ → Bool) (xs : List ℕ) → everywhere p xs ≡ true → (n : ℕ) → 0 < occurs n xs → p n ≡ true
+pub everywhere-so : (p : ℕ → Bool) (xs : List ℕ) → everywhere p xs ≡ true → (n : ℕ) → 0 < occurs n xs → p n ≡ true
 unfolding everywhere occurs total
 everywhere-so p [] e n h = absurd (omega arith)
 everywhere-so p (x ∷ xs) e n h =

@@ -22,7 +22,7 @@ use Rattle.laws.proofs.Convolution.{conv-comm}
 use Rattle.laws.proofs.Kernels.{at, at-kernel, impulse-start}
 use Rattle.laws.proofs.Cascades.{spread, cascaded, spread-unit, cascaded-agree, cascaded-conv, conv-first, conv-impulse, kernel-short}
 use Rattle.laws.proofs.Exact.{line, pixel-right, pixel-below, exact-cascaded, rows-pos, columns-pos}
-use Rattle.laws.proofs.Counts.{Balanced, balanced-order, total-order, product-order, occurs-append, occurs-keep, occurs-other, struck-total, struck-product}
+use Rattle.laws.proofs.Counts.{Balanced, balanced-order, total-order, product-order, occurs-append, occurs-other, struck-one, struck-other, struck-total, struck-product}
 use Rattle.laws.proofs.Integrators.{spread-comm, integrators, integrators-agree, integrators-append, integrators-order, integrators-counts, cascade-undone, ones-pos}
 
 -- ---- from the counts to the cascades
@@ -66,13 +66,15 @@ occurs-ones n (suc m) h = occurs-other n 1 (replicate m 1) h ∙ occurs-ones n m
 
 -- where all widths but 1 occur as often, all do with 1 struck out
 struck-balanced : (ns ms : List ℕ) → ((n : ℕ) → (1 ≡ n → ⊥) → occurs n ns ≡ occurs n ms) → Balanced (struck ns) (struck ms)
-unfolding struck
-struck-balanced ns ms e n =
-    occurs-keep (λ m. not (eqb m 1)) n ns ∙ go (eqb n 1) refl ∙ sym (occurs-keep (λ m. not (eqb m 1)) n ms)
+struck-balanced ns ms e n = go (eqb n 1) refl
   where
-    go : (b : Bool) → eqb n 1 ≡ b → cond (not b) (occurs n ns) 0 ≡ cond (not b) (occurs n ms) 0
-    go true q = refl
-    go false q = e n (λ d. eqb-false n 1 q (sym d))
+    go : (b : Bool) → eqb n 1 ≡ b → occurs n (struck ns) ≡ occurs n (struck ms)
+    go true q =
+        let is : n ≡ 1 = eqb-true n 1 q in
+        ap (λ m. occurs m (struck ns)) is ∙ struck-one ns ∙ sym (ap (λ m. occurs m (struck ms)) is ∙ struck-one ms)
+    go false q =
+        let other : n ≡ 1 → ⊥ = eqb-false n 1 q in
+        struck-other n ns other ∙ e n (λ d. other (sym d)) ∙ sym (struck-other n ms other)
 
 append-pos : (ns ms : List ℕ) → 0 < product ns → 0 < product ms → 0 < product (ns ++ ms)
 append-pos ns ms p q = le-trans (mul-pos p q) (le-of-eq (sym (product-append ns ms)))

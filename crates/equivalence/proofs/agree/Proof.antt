@@ -1,31 +1,21 @@
--- `equivalence::agree` meets its contract: after k widths those before agreed.
+-- `equivalence::agree` meets its contract: before place n the tallies agree, or they are known to differ.
 -- Assumes nothing.
-use mathlib.Core.Path.{refl}
-use Prim.Native.Nat.{_-_}
-use borrow.Author.Tests.{eq-eqb, ne-eqb}
+use mathlib.Core.Path.{sym, subst}
+use mathlib.Core.Logic.{⊎-elim}
+use Prim.Native.Nat.{_+_, _-_}
 use borrow.Author.Needs.{needs}
-use Rattle.equivalence.specs.Tally.{alike}
-use Rattle.equivalence.proofs.Tallies.{Checked, checked-none, checked-more, checked-not, checked-all}
+use Rattle.equivalence.proofs.Tallies.{Compared, compared-none, compared-same, compared-other, compared-all}
 use Rattle.equivalence.proofs.agree.Statement.{statement}
 use Rattle.equivalence.proofs.agree.Tie as tie
 
 abbrev Inv-loop : tie.InvT-loop
-Inv-loop a b list count k₀ k = Checked (alike a b) list count k
+Inv-loop a b same₀ n₀ same n = Compared a b same n
 
 abbrev μ-loop : tie.MeasureT-loop
-μ-loop a b list count k₀ k = count - k
-
-cast-count : tie.Need-cast-count Inv-loop μ-loop
-cast-count c = search needs
+μ-loop a b same₀ n₀ same n = 256 - n
 
 loop-holds : tie.Need-loop-holds Inv-loop μ-loop
-loop-holds c = checked-none (alike (c .args .a .now) (c .args .b .now)) (c .args .t1) _ refl (search needs)
-
-element-copy-out-place : tie.Need-element-copy-out-place Inv-loop μ-loop
-element-copy-out-place c = search needs
-
-place-requires : tie.Need-place-requires Inv-loop μ-loop
-place-requires c κs = search needs
+loop-holds c = compared-none (c .args .a .now) (c .args .b .now)
 
 element-copy-out-if1 : tie.Need-element-copy-out-if1 Inv-loop μ-loop
 element-copy-out-if1 c = search needs
@@ -33,31 +23,30 @@ element-copy-out-if1 c = search needs
 element-copy-out-if1-2 : tie.Need-element-copy-out-if1-2 Inv-loop μ-loop
 element-copy-out-if1-2 c = search needs
 
-returns : tie.Need-returns Inv-loop μ-loop
-returns c =
-    let turn = c .before .before .before .before .before .before .loop in
-    let start = c .before .before .before .before .before .before .before in
-    let place = c .before .before .before .place in
-    checked-not (alike (start .args .a .now) (start .args .b .now)) (start .args .t1) _ (turn .k) (turn .inv) (search needs) (start .pre) (place .result) (place .ensures .0) (ne-eqb _ _ (c .if1 .taken))
-
-add-k : tie.Need-add-k Inv-loop μ-loop
-add-k c = search needs
+add-n : tie.Need-add-n Inv-loop μ-loop
+add-n c = search needs
 
 loop-less : tie.Need-loop-less Inv-loop μ-loop
 loop-less c = search needs
 
 loop-again : tie.Need-loop-again Inv-loop μ-loop
 loop-again c =
-    let turn = c .before .before .before .before .before .before .loop in
-    let start = c .before .before .before .before .before .before .before in
-    let place = c .before .before .before .place in
-    checked-more (alike (start .args .a .now) (start .args .b .now)) (start .args .t1) _ (turn .k) (turn .inv) (search needs) (start .pre) (place .result) (place .ensures .0) (eq-eqb _ _ (c .if1 .left))
+    let args = c .before .before .before .before .before .args in
+    let turn = c .before .before .before .before .loop in
+    ⊎-elim
+    (λ then.
+    subst (λ same. Compared (args .a .now) (args .b .now) same (turn .n + 1)) (sym (then .1))
+    (compared-other (args .a .now) (args .b .now) (turn .same) (turn .n) (turn .inv) (search needs) (then .0 .taken)))
+    (λ else.
+    subst (λ same. Compared (args .a .now) (args .b .now) same (turn .n + 1)) (sym (else .1))
+    (compared-same (args .a .now) (args .b .now) (turn .same) (turn .n) (turn .inv) (else .0 .left)))
+    (c .if1 .came)
 
-returns-2 : tie.Need-returns-2 Inv-loop μ-loop
-returns-2 c =
-    let start = c .before .before in
+returns : tie.Need-returns Inv-loop μ-loop
+returns c =
+    let args = c .before .before .args in
     let turn = c .before .loop in
-    checked-all (alike (start .args .a .now) (start .args .b .now)) (start .args .t1) _ (turn .k) (turn .inv) (c .loop-test .left)
+    compared-all (args .a .now) (args .b .now) (turn .same) (turn .n) (turn .inv) (c .loop-test .left)
 
 pub agree-spec : {M : Type 1} → statement M
 agree-spec =
@@ -65,14 +54,10 @@ agree-spec =
     (tie.spec
     Inv-loop
     μ-loop
-    cast-count
     loop-holds
-    element-copy-out-place
-    place-requires
     element-copy-out-if1
     element-copy-out-if1-2
-    returns
-    add-k
+    add-n
     loop-less
     loop-again
-    returns-2)
+    returns)

@@ -1,10 +1,9 @@
--- `equivalence::tally` meets its contract: after i widths the tally holds those before.
+-- `equivalence::tally` meets its contract: after i widths the tally holds those before; widths of 1 are struck out at the end.
 -- Assumes nothing.
-use mathlib.Core.Path.{refl, sym, subst}
-use mathlib.Core.Logic.{⊎-elim}
-use Prim.Native.Nat.{_+_, _-_}
+use mathlib.Core.Path.{refl}
+use Prim.Native.Nat.{_-_}
 use borrow.Author.Needs.{needs}
-use Rattle.equivalence.proofs.Tallies.{Tallied, tallied-none, tallied-one, tallied-more, tally-small, tallied-all}
+use Rattle.equivalence.proofs.Tallies.{Tallied, tallied-none, tally-small, tallied-more, tallied-all}
 use Rattle.equivalence.proofs.tally.Statement.{statement}
 use Rattle.equivalence.proofs.tally.Tie as tie
 
@@ -31,10 +30,9 @@ array-read-counts c = search needs
 
 add-counts : tie.Need-add-counts Inv-loop μ-loop
 add-counts c =
-    let start = c .before .before .before .before .before in
-    let turn = c .before .before .before .before .loop in
-    let n = c .before .place .result in
-    let small = tally-small (start .args .t1) _ (turn .counts) (turn .i) (turn .inv) (search needs) (start .pre) n (c .before .place .ensures .1) in
+    let start = c .before .before .before .before in
+    let turn = c .before .before .before .loop in
+    let small = tally-small (start .args .t1) _ (turn .counts) (turn .i) (turn .inv) (start .pre) (c .place .result) (c .place .ensures .1) in
     search needs
 
 array-write-counts : tie.Need-array-write-counts Inv-loop μ-loop
@@ -48,17 +46,12 @@ loop-less c = search needs
 
 loop-again : tie.Need-loop-again Inv-loop μ-loop
 loop-again c =
-    let start = c .before .before .before .before .before in
-    let turn = c .before .before .before .before .loop in
-    let place = c .before .place in
-    ⊎-elim
-    (λ then.
-    subst (λ counts. Tallied (start .args .t1) (start .args .t1 .count) counts (turn .i + 1)) (sym (then .1))
-    (tallied-more (start .args .t1) _ (turn .counts) (turn .i) (turn .inv) (search needs) (start .pre) (place .result) (place .ensures .0) (then .0 .taken) (place .ensures .1)))
-    (λ else.
-    subst (λ counts. Tallied (start .args .t1) (start .args .t1 .count) counts (turn .i + 1)) (sym (else .1))
-    (tallied-one (start .args .t1) _ (turn .counts) (turn .i) (turn .inv) (search needs) (start .pre) (place .result) (place .ensures .0) (else .0 .left)))
-    (c .if1 .came)
+    let start = c .before .before .before .before in
+    let turn = c .before .before .before .loop in
+    tallied-more (start .args .t1) _ (turn .counts) (turn .i) (turn .inv) (search needs) (start .pre) (c .place .result) (c .place .ensures .0) (c .place .ensures .1)
+
+array-write-counts-2 : tie.Need-array-write-counts-2 Inv-loop μ-loop
+array-write-counts-2 c = search needs
 
 returns : tie.Need-returns Inv-loop μ-loop
 returns c =
@@ -81,4 +74,5 @@ tally-spec =
     add-i
     loop-less
     loop-again
+    array-write-counts-2
     returns)
