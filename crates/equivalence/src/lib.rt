@@ -3,6 +3,7 @@
 ghost use mathlib.Core.Path.{_≡_};
 ghost use mathlib.Core.Bool.{true};
 ghost use Prim.Native.Nat.{_≤_, _<_};
+ghost use lib.ListN.{replicate};
 ghost use Rattle.spec.specs.Words.{everywhere};
 ghost use Rattle.spec.specs.Recipe.{recipe, widths};
 ghost use Rattle.spec.specs.Same.{sameCounts};
@@ -28,12 +29,11 @@ fn place(n: u8) -> usize
 }
 
 // How often each width occurs in a cascade, with widths of 1 struck out.
-fn tally(list: Cascade) -> [u8; 256]
-    requires { ⌜ list .count ≤ 48 ⌝ }
-    ensures { λ r. ⌜ (r ≡ tallyOf (widths list)) × (everywhere byte (widths list) ≡ true) ⌝ }
+fn tally(list: Cascade, counts: &mut [u8; 256])
+    requires { ⌜ (list .count ≤ 48) × (now counts ≡ replicate 256 0) ⌝ }
+    ensures { λ r. ⌜ (now (counts .exit) ≡ tallyOf (widths list)) × (everywhere byte (widths list) ≡ true) ⌝ }
 {
     let count = list.count as usize;
-    let mut counts = [0u8; 256];
     let mut i: usize = 0;
     while i < count {
         let n = place(list.widths[i]);
@@ -41,7 +41,6 @@ fn tally(list: Cascade) -> [u8; 256]
         i += 1;
     }
     counts[1] = 0;
-    counts
 }
 
 // Whether two tallies agree at every width.
@@ -64,8 +63,10 @@ fn same_counts(a: Cascade, b: Cascade) -> bool
     requires { ⌜ (a .count ≤ 48) × (b .count ≤ 48) ⌝ }
     ensures { λ r. ⌜ r ≡ sameCounts (widths a) (widths b) ⌝ }
 {
-    let of_a = tally(a);
-    let of_b = tally(b);
+    let mut of_a = [0u8; 256];
+    let mut of_b = [0u8; 256];
+    tally(a, &mut of_a);
+    tally(b, &mut of_b);
     agree(&of_a, &of_b)
 }
 

@@ -17,10 +17,10 @@ agree-requires c κs = search needs
 
 returns : tie.Need-returns
 returns c =
-    let tallied = c .before .before .before in
-    let args = tallied .before .before .args in
-    tallies-answer (widths (args .a)) (widths (args .b)) (tallied .before .tally .result) (tallied .tally2 .result) (c .agree .result)
-    (tallied .before .tally .ensures) (tallied .tally2 .ensures) (c .agree .ensures)
+    let second = c .before .before .before in
+    let first = second .before .before in
+    let args = first .before .before .args in
+    tallies-answer (widths (args .a)) (widths (args .b)) _ _ (c .agree .result) (first .tally .ensures) (second .tally2 .ensures) (c .agree .ensures)
 
 pub same-counts-spec : {M : Type 1} → statement M
 same-counts-spec = tie.close (tie.spec tally-requires tally-requires-2 agree-requires returns)

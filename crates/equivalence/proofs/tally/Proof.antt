@@ -1,6 +1,6 @@
 -- `equivalence::tally` meets its contract: after i widths the tally holds those before; widths of 1 are struck out at the end.
 -- Assumes nothing.
-use mathlib.Core.Path.{refl}
+use mathlib.Core.Path.{refl, sym, subst}
 use Prim.Native.Nat.{_-_}
 use borrow.Author.Needs.{needs}
 use Rattle.equivalence.proofs.Tallies.{Tallied, tallied-none, tally-small, tallied-more, tallied-all}
@@ -8,16 +8,17 @@ use Rattle.equivalence.proofs.tally.Statement.{statement}
 use Rattle.equivalence.proofs.tally.Tie as tie
 
 abbrev Inv-loop : tie.InvT-loop
-Inv-loop list count counts₀ i₀ counts i = Tallied list count counts i
+Inv-loop counts₀ list count i₀ counts i = Tallied list count counts i
 
 abbrev μ-loop : tie.MeasureT-loop
-μ-loop list count counts₀ i₀ counts i = count - i
+μ-loop counts₀ list count i₀ counts i = count - i
 
 cast-count : tie.Need-cast-count Inv-loop μ-loop
 cast-count c = search needs
 
 loop-holds : tie.Need-loop-holds Inv-loop μ-loop
-loop-holds c = tallied-none (c .args .t1) _ refl (search needs)
+loop-holds c =
+    subst (λ counts. Tallied (c .args .t1) (c .args .t1 .count) counts 0) (sym (c .pre .1)) (tallied-none (c .args .t1) _ refl (search needs))
 
 element-copy-out-place : tie.Need-element-copy-out-place Inv-loop μ-loop
 element-copy-out-place c = search needs
@@ -25,18 +26,18 @@ element-copy-out-place c = search needs
 place-requires : tie.Need-place-requires Inv-loop μ-loop
 place-requires c κs = search needs
 
-array-read-counts : tie.Need-array-read-counts Inv-loop μ-loop
-array-read-counts c = search needs
+element-copy-out-counts : tie.Need-element-copy-out-counts Inv-loop μ-loop
+element-copy-out-counts c = search needs
 
 add-counts : tie.Need-add-counts Inv-loop μ-loop
 add-counts c =
-    let start = c .before .before .before .before in
-    let turn = c .before .before .before .loop in
-    let small = tally-small (start .args .t1) _ (turn .counts) (turn .i) (turn .inv) (start .pre) (c .place .result) (c .place .ensures .1) in
+    let start = c .before .before .before .before .before in
+    let turn = c .before .before .before .before .loop in
+    let small = tally-small (start .args .t1) _ (turn .counts) (turn .i) (turn .inv) (start .pre .0) (c .before .place .result) (c .before .place .ensures .1) in
     search needs
 
-array-write-counts : tie.Need-array-write-counts Inv-loop μ-loop
-array-write-counts c = search needs
+element-write-counts : tie.Need-element-write-counts Inv-loop μ-loop
+element-write-counts c = search needs
 
 add-i : tie.Need-add-i Inv-loop μ-loop
 add-i c = search needs
@@ -46,12 +47,12 @@ loop-less c = search needs
 
 loop-again : tie.Need-loop-again Inv-loop μ-loop
 loop-again c =
-    let start = c .before .before .before .before in
-    let turn = c .before .before .before .loop in
-    tallied-more (start .args .t1) _ (turn .counts) (turn .i) (turn .inv) (search needs) (start .pre) (c .place .result) (c .place .ensures .0) (c .place .ensures .1)
+    let start = c .before .before .before .before .before in
+    let turn = c .before .before .before .before .loop in
+    tallied-more (start .args .t1) _ (turn .counts) (turn .i) (turn .inv) (search needs) (start .pre .0) (c .before .place .result) (c .before .place .ensures .0) (c .before .place .ensures .1)
 
-array-write-counts-2 : tie.Need-array-write-counts-2 Inv-loop μ-loop
-array-write-counts-2 c = search needs
+element-write-counts-2 : tie.Need-element-write-counts-2 Inv-loop μ-loop
+element-write-counts-2 c = search needs
 
 returns : tie.Need-returns Inv-loop μ-loop
 returns c =
@@ -68,11 +69,11 @@ tally-spec =
     loop-holds
     element-copy-out-place
     place-requires
-    array-read-counts
+    element-copy-out-counts
     add-counts
-    array-write-counts
+    element-write-counts
     add-i
     loop-less
     loop-again
-    array-write-counts-2
+    element-write-counts-2
     returns)
