@@ -161,7 +161,7 @@ pub extern "C" fn bore_moments(
     }
 }
 
-// Whether two recipes are the same, 1 or 0: the first's 1 to 4, then the second's.
+// Writes 1 where two recipes are the same, else 0: the first's 1 to 4, then the second's.
 #[no_mangle]
 pub extern "C" fn bore_equivalent(
     a_row_count: u8,

@@ -3,13 +3,12 @@
 use mathlib.Core.Path.{_≡_, sym, ap, ap₂, _∙_}
 use mathlib.Core.Bool.{Bool, _&&_}
 use Prim.Native.Nat.{ℕ, _≤_}
-use native.Mathlib.Omega.{arith}
 use Rattle.spec.specs.declared.Filter.{Filter}
 use Rattle.spec.specs.Recipe.{Recipe, recipe, widths}
 use Rattle.spec.specs.Same.{sameCounts, equivalent}
 use Rattle.spec.specs.Refusals.{first, accepted, answer, recipeChecks, compareChecks}
 use Rattle.laws.proofs.Refusals.{first-front, first-rest, none-both, answer-accepted, is-accepted, recipe-numbered}
-use Rattle.filter.proofs.Widths.{length-widths}
+use Rattle.filter.proofs.Refusal.{accepted-counts}
 
 module _ (a b : Recipe) where
   -- refused by the first, or decided by the second
@@ -25,20 +24,13 @@ module _ (a b : Recipe) where
   unfolding compareChecks
   both-accepted e = none-both (recipeChecks a) (recipeChecks b) (recipe-numbered a) e
 
--- the counts of an accepted recipe
-counts : (f : Filter) → first (recipeChecks (recipe f)) ≡ 0 → (f .rows .count ≤ 48) × (f .columns .count ≤ 48)
-unfolding recipe
-counts f e =
-    let known = is-accepted (recipe f) e in
-    (omega (arith, length-widths (f .rows), known .rowsShort), omega (arith, length-widths (f .columns), known .columnsShort))
-
 module _ (a b : Filter) (n : ℕ) (e : n ≡ first (compareChecks (recipe a) (recipe b))) (z : n ≡ 0) where
   none : (first (recipeChecks (recipe a)) ≡ 0) × (first (recipeChecks (recipe b)) ≡ 0)
   none = both-accepted (recipe a) (recipe b) (sym e ∙ z)
 
   -- no list is longer than 48
   pub lists-short : ((a .rows .count ≤ 48) × (a .columns .count ≤ 48)) × ((b .rows .count ≤ 48) × (b .columns .count ≤ 48))
-  lists-short = (counts a (none .0), counts b (none .1))
+  lists-short = (accepted-counts a (is-accepted (recipe a) (none .0)), accepted-counts b (is-accepted (recipe b) (none .1)))
 
   -- the answer by what the comparisons of the rows and of the columns answered
   pub answered : (q r : Bool) → q ≡ sameCounts (widths (a .rows)) (widths (b .rows)) → r ≡ sameCounts (widths (a .columns)) (widths (b .columns))

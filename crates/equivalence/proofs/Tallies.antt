@@ -14,13 +14,13 @@ use lib.ListN.{length, getD, drop, set, replicate, length-set, length-replicate,
 use lib.Seq.{getD-set-same, getD-set-other}
 use borrow.Author.Tests.{eqb-true, eqb-false, lt-ltb, ltb-true}
 use Rattle.spec.specs.declared.Cascade.{Cascade}
-use Rattle.spec.specs.Words.{tab, total, everywhere, occurs}
+use Rattle.spec.specs.Words.{tab, everywhere, occurs}
 use Rattle.spec.specs.Recipe.{widths}
 use Rattle.spec.specs.Same.{struck, sameCounts}
 use Rattle.equivalence.specs.Tally.{byte, tallyOf, Alike, Decides}
 use Rattle.laws.proofs.Lists.{getD-tab, total-most}
 use Rattle.laws.proofs.Kernels.{at, holds-tab}
-use Rattle.laws.proofs.Counts.{Balanced, occurs-here, occurs-other, struck-one, struck-other, everywhere-so, same-balanced, balanced-same}
+use Rattle.laws.proofs.Counts.{Balanced, occurs-none, occurs-here, occurs-other, struck-one, struck-other, everywhere-so, same-balanced, balanced-same}
 use Rattle.filter.proofs.Widths.{length-widths, widths-from}
 
 -- ---- the loop that counts the widths
@@ -33,10 +33,6 @@ occurs-most n ns = le-trans (total-most (λ x. cond (eqb x n) 1 0) 1 (λ x. once
     once : (b : Bool) → cond b 1 0 ≤ 1
     once true = omega arith
     once false = omega arith
-
-none-occurs : (n : ℕ) → occurs n [] ≡ 0
-unfolding occurs total
-none-occurs n = refl
 
 -- After i widths: those from place i on are still to be counted, and to be seen to be bytes.
 pub record Tallied (c : Cascade) (count : ℕ) (counts : List ℕ) (i : ℕ) : Type 0 where
@@ -127,22 +123,22 @@ module _ (c : Cascade) (count : ℕ) where
         go n l false q =
             let other : n ≡ 1 → ⊥ = eqb-false n 1 q in
             getD-set-other counts 1 n 0 0 other
-            ∙ omega (arith, t .is n l, ap (occurs n) over, none-occurs n)
+            ∙ omega (arith, t .is n l, ap (occurs n) over, occurs-none n)
             ∙ sym (struck-other n (widths c) other)
 
 -- ---- the loop that compares two tallies
 
 -- Before place n they agree, or they are known to differ.
-pub record Compared (a b : List ℕ) (same : Bool) (n : ℕ) : Type 0 where
+pub record AlikeBefore (a b : List ℕ) (same : Bool) (n : ℕ) : Type 0 where
   pub so : same ≡ true → (k : ℕ) → k < n → getD a k 0 ≡ getD b k 0
   pub not : same ≡ false → Alike a b → ⊥
 
 module _ (a b : List ℕ) where
-  pub compared-none : Compared a b true 0
+  pub compared-none : AlikeBefore a b true 0
   compared-none = record { so = λ e k h. absurd (omega arith); not = λ e. absurd (true≢false e) }
 
-  module _ (same : Bool) (n : ℕ) (t : Compared a b same n) where
-    pub compared-same : getD a n 0 ≡ getD b n 0 → Compared a b same (n + 1)
+  module _ (same : Bool) (n : ℕ) (t : AlikeBefore a b same n) where
+    pub compared-same : getD a n 0 ≡ getD b n 0 → AlikeBefore a b same (n + 1)
     compared-same d =
         record {
           so = λ e k h. elim (decLt k n) [
@@ -152,7 +148,7 @@ module _ (a b : List ℕ) where
           not = t .not;
         }
 
-    pub compared-other : n < 256 → (getD a n 0 ≡ getD b n 0 → ⊥) → Compared a b false (n + 1)
+    pub compared-other : n < 256 → (getD a n 0 ≡ getD b n 0 → ⊥) → AlikeBefore a b false (n + 1)
     compared-other h d = record { so = λ e. absurd (true≢false (sym e)); not = λ e q. d (q n h) }
 
     pub compared-all : 256 ≤ n → Decides same (Alike a b)
@@ -160,16 +156,16 @@ module _ (a b : List ℕ) where
 
 -- ---- what the comparison says of the lists
 
-module _ (ns ms : List ℕ) (x : everywhere byte ns ≡ true) (y : everywhere byte ms ≡ true) where
-  -- a width that is no byte occurs in neither list
-  no-byte : (n : ℕ) → 256 ≤ n → (ks : List ℕ) → everywhere byte ks ≡ true → occurs n (struck ks) ≡ 0
-  no-byte n h ks e =
-      struck-other n ks (λ q. omega arith)
-      ∙ elim (decLt 0 (occurs n ks)) [
-        | yes l ↦ absurd (omega (arith, ltb-true n 256 (everywhere-so byte ks e n l)))
-        | no l ↦ omega arith
-      ]
+-- a width that is no byte occurs in neither list
+no-byte : (n : ℕ) → 256 ≤ n → (ks : List ℕ) → everywhere byte ks ≡ true → occurs n (struck ks) ≡ 0
+no-byte n h ks e =
+    struck-other n ks (λ q. omega arith)
+    ∙ elim (decLt 0 (occurs n ks)) [
+      | yes l ↦ absurd (omega (arith, ltb-true n 256 (everywhere-so byte ks e n l)))
+      | no l ↦ omega arith
+    ]
 
+module _ (ns ms : List ℕ) (x : everywhere byte ns ≡ true) (y : everywhere byte ms ≡ true) where
   tallies-balanced : Alike (tallyOf ns) (tallyOf ms) → Balanced (struck ns) (struck ms)
   unfolding tallyOf
   tallies-balanced e n =

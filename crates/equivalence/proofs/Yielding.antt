@@ -12,17 +12,17 @@ use Rattle.spec.specs.Words.{part}
 use Rattle.spec.specs.Recipe.{Recipe, recipe, order, kernel}
 use Rattle.spec.specs.Picture.{Picture, exact, fullWidth, fullHeight, fullRow, full}
 use Rattle.spec.specs.Stream.{streamCells}
-use Rattle.spec.specs.Refusals.{Check, check, first, lent, badSides, otherPixels, otherOutput, tooFewCells, recipeChecks, sizeChecks, pictureChecks, startChecks, fullSize, passChecks, directChecks}
+use Rattle.spec.specs.Refusals.{Check, check, first, lent, otherPixels, otherOutput, tooFewCells, sizeChecks, pictureChecks, startChecks, fullSize, passChecks, directChecks}
 use Rattle.laws.proofs.Lists.{length-tab, getD-tab, tab-agree}
 use Rattle.laws.proofs.Exact.{getD-full}
-use Rattle.laws.proofs.Refusals.{first-none, first-then, recipe-numbered, size-numbered, as-stated, same-length-so, picture-rest, lent-accepted}
+use Rattle.laws.proofs.Refusals.{none-both, first-rest, first-then, size-numbered, picture-numbered, as-stated, lent-accepted}
 use Rattle.direct.specs.Formed.{checks as directAsked}
 use Rattle.passes.specs.Passed.{checks as passAsked}
 use Rattle.stream.specs.Calls.{Began, start, started}
 use Rattle.stream.specs.Runs.{whole}
 use Rattle.stream.specs.OnePass.{acceptedCalls}
-use Rattle.stream.proofs.Run.{one-pass}
-use Rattle.equivalence.specs.Yields.{AcceptedRecipe, AcceptedPicture, onePass, passByPass, direct, rowIn, StreamedRow, PassedRow, FormedRow, Yields, YieldsClaim}
+use Rattle.stream.proofs.Run.{one-pass, first-rows}
+use Rattle.equivalence.specs.Yields.{AcceptedWith, stream, passes, direct, rowIn, StreamedRow, PassedRow, FormedRow, Yields, YieldsClaim}
 
 -- a list of zeros, lent for so many numbers
 abbrev zeros : ℕ → List ℕ
@@ -39,25 +39,17 @@ enough : (n : ℕ) → tooFewCells (length (zeros n)) n ≡ false
 unfolding tooFewCells
 enough n = le-ltb (length (zeros n)) n (omega (arith, size-zeros n))
 
-module _ (f : Filter) (p : Picture) (known : AcceptedRecipe (recipe f)) (shown : AcceptedPicture p) (j : ℕ) where
+module _ (f : Filter) (p : Picture) (shown : AcceptedWith (recipe f) p) (j : ℕ) where
   abbrev r : Recipe
   r = recipe f
 
-  -- none of 1 to 6 applies
-  sides : badSides (p .width) (p .height) ≡ false
-  sides = first-none (badSides (p .width) (p .height)) 4 _ (shown .checked) .0
-
-  size : length (p .pixels) ≡ p .width * p .height
-  size =
-      same-length-so (length (p .pixels)) (p .width * p .height)
-      (first-none (otherPixels (length (p .pixels)) (p .width * p .height)) 5 _ (first-none (badSides (p .width) (p .height)) 4 _ (shown .checked) .1) .0)
-
+  -- none of 1 to 5 applies, and none of a call's checks where those after 6 do not
   five : first (sizeChecks r (p .width) (p .height)) ≡ 0
-  unfolding sizeChecks
-  five = first-then (recipeChecks r) (badSides (p .width) (p .height)) 5 (recipe-numbered r) known ∙ ap (λ b. cond b 5 0) sides
+  unfolding pictureChecks
+  five = none-both (sizeChecks r (p .width) (p .height)) _ (size-numbered r (p .width) (p .height)) (shown .checked) .0
 
   six : (ds : List Check) → first ds ≡ 0 → first (pictureChecks r p ++ ds) ≡ 0
-  six ds e = picture-rest r p ds five size ∙ e
+  six ds e = first-rest (pictureChecks r p) ds (picture-numbered r p) (shown .checked) ∙ e
 
   -- row j of all grown rows
   row-of-full : j < fullHeight r (p .height) → rowIn r p j (full r p) ≡ fullRow r p j
@@ -154,7 +146,7 @@ module _ (f : Filter) (p : Picture) (known : AcceptedRecipe (recipe f)) (shown :
         cells = startCells;
         calls = whole p (order (r .columns)) outs;
         started = begins;
-        firstRows = holds .rowsTaken outs wide;
+        firstRows = first-rows p _ (p .height) (holds .rowsTaken outs wide);
         inside = omega (arith, h, ap length all, length-tab (fullHeight r (p .height)) (fullRow r p));
         place = sym (ap (λ rows. getD rows j []) all ∙ getD-tab (fullHeight r (p .height)) (fullRow r p) j [] h);
       }
@@ -162,6 +154,6 @@ module _ (f : Filter) (p : Picture) (known : AcceptedRecipe (recipe f)) (shown :
 -- the claim
 pub yields-exactly : YieldsClaim
 unfolding Yields
-yields-exactly f p known shown j onePass = record { yielded = streamed-row f p known shown j; only = streamed-only f p known shown j }
-yields-exactly f p known shown j passByPass = record { yielded = passed-row f p known shown j; only = passed-only f p known shown j }
-yields-exactly f p known shown j direct = record { yielded = formed-row f p known shown j; only = formed-only f p known shown j }
+yields-exactly f p shown j stream = record { yielded = streamed-row f p shown j; only = streamed-only f p shown j }
+yields-exactly f p shown j passes = record { yielded = passed-row f p shown j; only = passed-only f p shown j }
+yields-exactly f p shown j direct = record { yielded = formed-row f p shown j; only = formed-only f p shown j }

@@ -10,42 +10,43 @@ use Rattle.spec.specs.Picture.{Picture, picture}
 use Rattle.equivalence.specs.declared.Comparison.{Comparison}
 use Rattle.equivalence.specs.declared.Comparison.the-variants as comparison
 use Rattle.equivalence.specs.Compared.{Compared}
-use Rattle.equivalence.specs.Yields.{AcceptedRecipe, AcceptedPicture, Method, Yields}
+use Rattle.equivalence.specs.Yields.{AcceptedWith, Method, Yields}
 
--- a recipe of these widths along the rows and none down the columns
+-- a cascade of these widths, and a recipe of them along the rows with none down the columns
 abbrev holding : List ℕ → Cascade
 holding ns = record { count = length ns; widths = ns ++ replicate (48 - length ns) 0 }
 
-abbrev rowsOf : List ℕ → Filter
-rowsOf ns = record { rows = holding ns; columns = holding [] }
+abbrev alongRows : List ℕ → Filter
+alongRows ns = record { rows = holding ns; columns = holding [] }
 
-abbrev pub meant : Filter
-meant = rowsOf (2 ∷ 6 ∷ 6 ∷ [])
+abbrev pub twoSixSix : Filter
+twoSixSix = alongRows (2 ∷ 6 ∷ 6 ∷ [])
 
-abbrev pub retyped : Filter
-retyped = rowsOf (3 ∷ 3 ∷ 8 ∷ [])
+abbrev pub threeThreeEight : Filter
+threeThreeEight = alongRows (3 ∷ 3 ∷ 8 ∷ [])
 
--- the picture of a single pixel 1, and its one grown row
+-- the picture of a single pixel 1, and its grown row by each of the two recipes
 abbrev pub dot : Picture
 dot = picture 1 1 (1 ∷ [])
 
-abbrev pub meantRow : List ℕ
-meantRow = 1 ∷ 3 ∷ 5 ∷ 7 ∷ 9 ∷ 11 ∷ 11 ∷ 9 ∷ 7 ∷ 5 ∷ 3 ∷ 1 ∷ []
+abbrev pub twoSixSixRow : List ℕ
+twoSixSixRow = 1 ∷ 3 ∷ 5 ∷ 7 ∷ 9 ∷ 11 ∷ 11 ∷ 9 ∷ 7 ∷ 5 ∷ 3 ∷ 1 ∷ []
 
-abbrev pub retypedRow : List ℕ
-retypedRow = 1 ∷ 3 ∷ 6 ∷ 8 ∷ 9 ∷ 9 ∷ 9 ∷ 9 ∷ 8 ∷ 6 ∷ 3 ∷ 1 ∷ []
+abbrev pub threeThreeEightRow : List ℕ
+threeThreeEightRow = 1 ∷ 3 ∷ 6 ∷ 8 ∷ 9 ∷ 9 ∷ 9 ∷ 9 ∷ 8 ∷ 6 ∷ 3 ∷ 1 ∷ []
 
+-- The claim about the two.
 pub record ToldApart : Type 0 where
-  pub meantAccepted : AcceptedRecipe (recipe meant)
-  pub retypedAccepted : AcceptedRecipe (recipe retyped)
-  pub dotAccepted : AcceptedPicture dot
-  -- reach, weight and count agree
-  pub reach : order (recipe meant .rows) ≡ order (recipe retyped .rows)
-  pub weight : gain (recipe meant) ≡ gain (recipe retyped)
-  pub count : length (recipe meant .rows) ≡ length (recipe retyped .rows)
+  -- recipes and picture are accepted
+  pub firstAccepted : AcceptedWith (recipe twoSixSix) dot
+  pub secondAccepted : AcceptedWith (recipe threeThreeEight) dot
+  -- the reach along the rows is 11, the weight 72 and the count of widths 3, for both
+  pub reaches : (order (recipe twoSixSix .rows) ≡ 11) × (order (recipe threeThreeEight .rows) ≡ 11)
+  pub weights : (gain (recipe twoSixSix) ≡ 72) × (gain (recipe threeThreeEight) ≡ 72)
+  pub counts : (length (recipe twoSixSix .rows) ≡ 3) × (length (recipe threeThreeEight .rows) ≡ 3)
   -- the comparing call says no
-  pub said : (told : Comparison) → Compared meant retyped told → told ≡ comparison.Different
+  pub said : (told : Comparison) → Compared twoSixSix threeThreeEight told → told ≡ comparison.Different
   -- by every method the picture shows two rows that differ
-  pub meantShown : (m : Method) → Yields m meant dot 0 meantRow
-  pub retypedShown : (m : Method) → Yields m retyped dot 0 retypedRow
-  pub differ : meantRow ≡ retypedRow → ⊥
+  pub firstShown : (m : Method) → Yields m twoSixSix dot 0 twoSixSixRow
+  pub secondShown : (m : Method) → Yields m threeThreeEight dot 0 threeThreeEightRow
+  pub differ : twoSixSixRow ≡ threeThreeEightRow → ⊥

@@ -1,13 +1,14 @@
--- The grown rows that each of the three methods yields, in the words of the methods' own contracts.
+-- The grown rows that each of the three methods yields, in the words of the methods' own contracts. The slices here hold numbers of any size;
+-- those of the machine are among them.
 use mathlib.Core.Path.{_≡_}
-use mathlib.Core.List.{List, [], _∷_}
+use mathlib.Core.List.{List, []}
 use Prim.Native.Nat.{ℕ, _*_, _<_}
 use lib.ListN.{length, getD}
 use Rattle.spec.specs.declared.Filter.{Filter}
 use Rattle.spec.specs.Words.{part}
 use Rattle.spec.specs.Recipe.{Recipe, recipe}
 use Rattle.spec.specs.Picture.{Picture, fullWidth, fullHeight, fullRow}
-use Rattle.spec.specs.Refusals.{check, first, badSides, otherPixels, recipeChecks}
+use Rattle.spec.specs.Refusals.{first, recipeChecks, pictureChecks}
 use Rattle.direct.specs.Formed.{Formed}
 use Rattle.passes.specs.Passed.{Passed}
 use Rattle.stream.specs.Calls.{start}
@@ -18,16 +19,17 @@ use Rattle.stream.specs.OnePass.{Bytes, acceptedCalls, FirstRows}
 abbrev pub AcceptedRecipe : Recipe → Type 0
 AcceptedRecipe r = first (recipeChecks r) ≡ 0
 
--- a picture of bytes to which neither 5 nor 6 applies
-pub record AcceptedPicture (p : Picture) : Type 0 where
-  pub checked : first (check (badSides (p .width) (p .height)) 5 ∷ check (otherPixels (length (p .pixels)) (p .width * p .height)) 6 ∷ []) ≡ 0
+-- a picture that is accepted with a recipe: none of 1 to 6 applies, and its pixels are bytes
+pub record AcceptedWith (r : Recipe) (p : Picture) : Type 0 where
+  pub checked : first (pictureChecks r p) ≡ 0
   pub bytes : Bytes p
 
 -- ---- the methods
 
+-- one pass, pass by pass, direct
 pub data Method : Type 0 where
-  onePass : Method
-  passByPass : Method
+  stream : Method
+  passes : Method
   direct : Method
 
 -- grown row j of a slice that holds all grown rows one after the other
@@ -68,14 +70,15 @@ pub record FormedRow (f : Filter) (p : Picture) (j : ℕ) (row : List ℕ) : Typ
 
 -- A method yields a row at place j, for a recipe and a picture.
 unfoldable pub Yields : Method → Filter → Picture → ℕ → List ℕ → Type 0
-Yields onePass f p j row = StreamedRow f p j row
-Yields passByPass f p j row = PassedRow f p j row
+Yields stream f p j row = StreamedRow f p j row
+Yields passes f p j row = PassedRow f p j row
 Yields direct f p j row = FormedRow f p j row
 
--- The claim: for an accepted recipe and picture each method yields every grown row of the exact sums, and no other row in its place.
+-- It yields the row of the exact sums, if there is one at that place, and no other row.
 pub record Exactly (f : Filter) (p : Picture) (j : ℕ) (m : Method) : Type 0 where
   pub yielded : j < fullHeight (recipe f) (p .height) → Yields m f p j (fullRow (recipe f) p j)
   pub only : (row : List ℕ) → Yields m f p j row → row ≡ fullRow (recipe f) p j
 
+-- The claim: so it is for every accepted recipe and picture, every place and every method.
 abbrev pub YieldsClaim : Type 0
-YieldsClaim = (f : Filter) (p : Picture) → AcceptedRecipe (recipe f) → AcceptedPicture p → (j : ℕ) (m : Method) → Exactly f p j m
+YieldsClaim = (f : Filter) (p : Picture) → AcceptedWith (recipe f) p → (j : ℕ) (m : Method) → Exactly f p j m

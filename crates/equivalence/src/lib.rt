@@ -28,7 +28,7 @@ fn place(n: u8) -> usize
     n as usize
 }
 
-// How often each width occurs in a cascade, with widths of 1 struck out.
+// How often each width occurs in a cascade, with widths of 1 struck out. Every width is a byte.
 fn tally(list: Cascade, counts: &mut [u8; 256])
     requires { ⌜ (list .count ≤ 48) × (now counts ≡ replicate 256 0) ⌝ }
     ensures { λ r. ⌜ (now (counts .exit) ≡ tallyOf (widths list)) × (everywhere byte (widths list) ≡ true) ⌝ }
@@ -70,7 +70,7 @@ fn same_counts(a: Cascade, b: Cascade) -> bool
     agree(&of_a, &of_b)
 }
 
-// The number of the first's 1 to 4 that applies, or else of the second's; 0 where none does.
+// The number that refuses the first recipe, or else the second; 0 where both are accepted.
 fn refusal(a: Filter, b: Filter) -> u8
     ensures { λ r. ⌜ r ≡ first (compareChecks (recipe a) (recipe b)) ⌝ }
 {

@@ -156,7 +156,6 @@ module _ (r : Recipe) (m : Measures) (s : m ≡ measured r) where
   told-accepted b n a e p = sym (answer-accepted (recipeChecks r ++ check b n ∷ []) a (measured-then e b n ∙ ap (λ x. cond x n 0) p))
 
 -- the counts of an accepted recipe
-pub known-counts : (f : Filter) {m : Measures} → Known (recipe f) m → (f .rows .count ≤ 48) × (f .columns .count ≤ 48)
+pub accepted-counts : (f : Filter) → Accepted (recipe f) → (f .rows .count ≤ 48) × (f .columns .count ≤ 48)
 unfolding recipe
-known-counts f k =
-    (omega (arith, length-widths (f .rows), k .accepted .rowsShort), omega (arith, length-widths (f .columns), k .accepted .columnsShort))
+accepted-counts f k = (omega (arith, length-widths (f .rows), k .rowsShort), omega (arith, length-widths (f .columns), k .columnsShort))

@@ -108,13 +108,3 @@ boxed-conv n f k =
     once : (b : Bool) (x : ℕ) → cond b x 0 ≡ cond b 1 0 * x
     once true x = sym (one-mul x)
     once false x = sym (zero-mul x)
-
--- boxes may be taken in either order
-pub boxed-comm : (n m : ℕ) (f : ℕ → ℕ) (k : ℕ) → boxed n (boxed m f) k ≡ boxed m (boxed n f) k
-boxed-comm n m f k = through n m ∙ conv-agree (conv (ones n) (ones m)) (conv (ones m) (ones n)) f f k (λ a h. conv-comm (ones n) (ones m) a) (λ a h. refl) ∙ sym (through m n)
-  where
-    through : (n m : ℕ) → boxed n (boxed m f) k ≡ conv (conv (ones n) (ones m)) f k
-    through n m =
-        boxed-conv n (boxed m f) k
-        ∙ conv-agree (ones n) (ones n) (boxed m f) (conv (ones m) f) k (λ a h. refl) (λ a h. boxed-conv m f a)
-        ∙ sym (conv-assoc (ones n) (ones m) f k)

@@ -1,7 +1,7 @@
 -- How often each number occurs in a list, and what depends on that alone.
 -- Assumes nothing.
 use mathlib.Core.Path.{_≡_, refl, sym, ap, ap₂, _∙_}
-use mathlib.Core.Bool.{Bool, true, false, not, cond, _&&_, true≢false}
+use mathlib.Core.Bool.{Bool, true, false, not, cond, _&&_}
 use mathlib.Core.List.{List, [], _∷_, _++_, List·Permᴰ, List·Permᴰ·nil, List·Permᴰ·cons, List·Permᴰ·swap, List·Permᴰ·trans, Permᴰ·refl}
 use Prim.Native.Nat.{ℕ, suc, _+_, _*_, _<_}
 use native.Mathlib.Nat.{mul-comm, mul-assoc, mul-pos, one-mul, zero-add}
@@ -11,11 +11,16 @@ use lib.Dec.{eqb}
 use borrow.Author.Tests.{eq-eqb, ne-eqb, eqb-true}
 use Rattle.spec.specs.Words.{total, product, everywhere, keep, occurs}
 use Rattle.spec.specs.Same.{struck, sameCounts}
+use Rattle.laws.proofs.Refusals.{both}
 use Rattle.laws.proofs.Lists.{total-append, first-pos, rest-pos}
 
 -- every number occurs as often in the one list as in the other
 abbrev pub Balanced : List ℕ → List ℕ → Type 0
 Balanced ns ms = (n : ℕ) → occurs n ns ≡ occurs n ms
+
+pub occurs-none : (n : ℕ) → occurs n [] ≡ 0
+unfolding occurs total
+occurs-none n = refl
 
 pub occurs-here : (n m : ℕ) (ms : List ℕ) → m ≡ n → occurs n (m ∷ ms) ≡ suc (occurs n ms)
 unfolding occurs total
@@ -126,7 +131,7 @@ struck-product (n ∷ ns) = go (eqb n 1) refl (struck-product ns)
     go true e i = i ∙ sym (ap (λ k. k * product ns) (eqb-true n 1 e) ∙ one-mul (product ns))
     go false e i = ap (λ t. n * t) i
 
--- a product that is not 0, of the entries at which a test holds
+-- where the product of a list is not 0, neither is that of the entries at which a test holds
 pub keep-pos : (p : ℕ → Bool) (xs : List ℕ) → 0 < product xs → 0 < product (keep p xs)
 unfolding keep product
 keep-pos p [] h = h
@@ -136,11 +141,7 @@ keep-pos p (x ∷ xs) h = go (p x) (keep-pos p xs (rest-pos x xs h))
     go true i = mul-pos (first-pos x xs h) i
     go false i = i
 
-pub both : (a b : Bool) → (a && b) ≡ true → (a ≡ true) × (b ≡ true)
-both true b e = (refl, e)
-both false b e = absurd (true≢false (sym e))
-
--- What the comparison by counts says: every number occurs as often, those that occur nowhere too.
+-- a test that holds everywhere holds of each number that occurs, and one that holds of every number holds everywhere
 pub everywhere-so : (p : ℕ → Bool) (xs : List ℕ) → everywhere p xs ≡ true → (n : ℕ) → 0 < occurs n xs → p n ≡ true
 unfolding everywhere occurs total
 everywhere-so p [] e n h = absurd (omega arith)
@@ -157,6 +158,7 @@ unfolding everywhere
 so-everywhere p [] h = refl
 so-everywhere p (x ∷ xs) h = ap₂ _&&_ (h x) (so-everywhere p xs h)
 
+-- what the comparison by counts says: every number occurs as often, those that occur nowhere too
 pub same-balanced : (ns ms : List ℕ) → sameCounts ns ms ≡ true → Balanced (struck ns) (struck ms)
 unfolding sameCounts
 same-balanced ns ms e n =

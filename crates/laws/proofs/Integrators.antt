@@ -1,31 +1,31 @@
--- Integrators, which undo boxes: a box of width n with a spread s, and after it the integrator that adds up every n s-th earlier value,
--- are the integrator that adds up every s-th. So cascades become products of integrators, and of those the count of each can be read off.
+-- Integrators, which undo boxes. The integrator with a spread u adds up every u-th earlier value. After a box of width n and spread s, the
+-- one with a spread n s gives what the one with a spread s gives without the box. So boxes become products of integrators, and of these the
+-- count of each spread can be read off.
 -- Assumes nothing.
 use mathlib.Core.Path.{_≡_, refl, sym, ap, ap₂, _∙_}
 use mathlib.Core.Bool.{cond}
 use mathlib.Core.List.{List, [], _∷_, _++_, List·Permᴰ, List·Permᴰ·nil, List·Permᴰ·cons, List·Permᴰ·swap, List·Permᴰ·trans}
 use Prim.Native.Nat.{ℕ, zero, suc, _+_, _-_, _*_, _≤_, _<_}
-use native.Mathlib.Nat.{le-refl, le-trans, le-of-eq, mul-assoc, mul-pos, one-mul, add-comm, add-mul, suc-mul, zero-mul, le-mul-of-pos-right, mul-le-mul-right, mul-lt-mul-of-pos-right}
+use native.Mathlib.Nat.{le-refl, le-trans, le-of-eq, mul-assoc, add-comm, add-mul, suc-mul, zero-mul, le-mul-of-pos-right}
 use native.Mathlib.Decide.{decLt}
 use native.Mathlib.Omega.{arith}
 use lib.Dec.{ltb}
-use lib.ListN.{length, replicate}
 use borrow.Author.Tests.{lt-ltb, le-ltb}
-use Rattle.spec.specs.Words.{sum, total, product, keep, occurs}
+use Rattle.spec.specs.Words.{sum, product, keep, occurs}
 use Rattle.laws.proofs.Sums.{sum-agree, sum-zero, sum-split, sum-swap}
 use Rattle.laws.proofs.Lists.{first-pos, rest-pos}
 use Rattle.laws.proofs.Sequences.{behind, behind-within, behind-before, behind-agree}
-use Rattle.laws.proofs.Cascades.{spread, cascaded, spread-agree, slide, behind-behind, behind-sum}
-use Rattle.laws.proofs.Counts.{Balanced, balanced-order, product-order, occurs-here, occurs-other, occurs-keep, keep-pos}
+use Rattle.laws.proofs.Cascades.{spread, spread-agree, slide, behind-behind, behind-sum}
+use Rattle.laws.proofs.Counts.{Balanced, balanced-order, product-order, occurs-none, occurs-here, occurs-other, occurs-keep, keep-pos}
 
 -- the integrator with a spread s: f k + f (k - s) + .. , as far back as the sequence goes
 unfoldable pub integrated : ℕ → (ℕ → ℕ) → ℕ → ℕ
 integrated s f k = spread s (suc k) f k
 
--- integrators one after the other, for each u of a list the one with a spread u s, the last of the list first
-unfoldable pub integrators : ℕ → List ℕ → (ℕ → ℕ) → ℕ → ℕ
-integrators s [] f = f
-integrators s (u ∷ us) f = integrated (u * s) (integrators s us f)
+-- integrators one after the other, one for each spread of a list, the last of the list first
+unfoldable pub integrators : List ℕ → (ℕ → ℕ) → ℕ → ℕ
+integrators [] f = f
+integrators (u ∷ us) f = integrated u (integrators us f)
 
 -- a box after a box
 spread-twice : (s t n m : ℕ) (f : ℕ → ℕ) (k : ℕ) → spread s n (spread t m f) k ≡ sum n (λ a. sum m (λ b. behind f (b * t + a * s) k))
@@ -98,119 +98,103 @@ integrated-box s n f k h g =
     ∙ sym (sum-rows (λ c. behind f (c * s) k) (suc k) n)
     ∙ spread-whole s (suc k * n) f k h wide
 
--- integrators one after the other: sequences that agree, lists one after the other, and the order of the list
-pub integrators-agree : (s : ℕ) (us : List ℕ) (f g : ℕ → ℕ) (k : ℕ) → ((j : ℕ) → j ≤ k → f j ≡ g j) → integrators s us f k ≡ integrators s us g k
+-- an integrator loses nothing
+integrated-back : (s : ℕ) (f g : ℕ → ℕ) → 0 < s → ((k : ℕ) → integrated s f k ≡ integrated s g k) → (k : ℕ) → f k ≡ g k
+integrated-back s f g h e k =
+    omega (arith, integrated-step s f k h, integrated-step s g k h, e k, behind-agree (integrated s f) (integrated s g) k (λ j l. e j) s)
+
+-- integrators one after the other: sequences that agree, and lists one after the other
+pub integrators-agree : (us : List ℕ) (f g : ℕ → ℕ) (k : ℕ) → ((j : ℕ) → j ≤ k → f j ≡ g j) → integrators us f k ≡ integrators us g k
 unfolding integrators
-integrators-agree s [] f g k e = e k (le-refl k)
-integrators-agree s (u ∷ us) f g k e =
-    integrated-agree (u * s) (integrators s us f) (integrators s us g) k (λ j h. integrators-agree s us f g j (λ i l. e i (le-trans l h)))
+integrators-agree [] f g k e = e k (le-refl k)
+integrators-agree (u ∷ us) f g k e =
+    integrated-agree u (integrators us f) (integrators us g) k (λ j h. integrators-agree us f g j (λ i l. e i (le-trans l h)))
 
-pub integrators-append : (s : ℕ) (us vs : List ℕ) (f : ℕ → ℕ) (k : ℕ) → integrators s (us ++ vs) f k ≡ integrators s us (integrators s vs f) k
+pub integrators-append : (us vs : List ℕ) (f : ℕ → ℕ) (k : ℕ) → integrators (us ++ vs) f k ≡ integrators us (integrators vs f) k
 unfolding integrators
-integrators-append s [] vs f k = refl
-integrators-append s (u ∷ us) vs f k =
-    integrated-agree (u * s) (integrators s (us ++ vs) f) (integrators s us (integrators s vs f)) k (λ j h. integrators-append s us vs f j)
+integrators-append [] vs f k = refl
+integrators-append (u ∷ us) vs f k =
+    integrated-agree u (integrators (us ++ vs) f) (integrators us (integrators vs f)) k (λ j h. integrators-append us vs f j)
 
-pub ones-pos : (n : ℕ) → 0 < product (replicate n 1)
-unfolding product
-ones-pos zero = omega arith
-ones-pos (suc n) = mul-pos (omega arith) (ones-pos n)
+-- they lose nothing, and may be taken in any order
+pub integrators-back : (us : List ℕ) (f g : ℕ → ℕ) → 0 < product us → ((k : ℕ) → integrators us f k ≡ integrators us g k) → (k : ℕ) → f k ≡ g k
+unfolding integrators
+integrators-back [] f g p e = e
+integrators-back (u ∷ us) f g p e =
+    integrators-back us f g (rest-pos u us p) (integrated-back u (integrators us f) (integrators us g) (first-pos u us p) e)
 
-module _ (s : ℕ) (h : 0 < s) where
-  pub integrators-order : {us vs : List ℕ} → List·Permᴰ us vs → 0 < product us → (f : ℕ → ℕ) (k : ℕ) → integrators s us f k ≡ integrators s vs f k
-  unfolding integrators
-  integrators-order List·Permᴰ·nil g f k = refl
-  integrators-order (List·Permᴰ·cons {a = a} {l₁ = us} {l₂ = vs} e d) g f k =
-      integrated-agree (a * s) (integrators s us f) (integrators s vs f) k (λ j l. integrators-order d (rest-pos a us g) f j)
-      ∙ ap (λ u. integrated (u * s) (integrators s vs f) k) e
-  integrators-order (List·Permᴰ·swap {a = a} {b = b} {l = us} e d) g f k =
-      integrated-comm (a * s) (b * s) (integrators s us f) k (mul-pos (first-pos a (b ∷ us) g) h) (mul-pos (first-pos b us (rest-pos a (b ∷ us) g)) h)
-      ∙ ap₂ (λ u v. integrated (u * s) (integrated (v * s) (integrators s us f)) k) d e
-  integrators-order (List·Permᴰ·trans d e) g f k =
-      integrators-order d g f k ∙ integrators-order e (le-trans g (le-of-eq (product-order d))) f k
+pub integrators-order : {us vs : List ℕ} → List·Permᴰ us vs → 0 < product us → (f : ℕ → ℕ) (k : ℕ) → integrators us f k ≡ integrators vs f k
+unfolding integrators
+integrators-order List·Permᴰ·nil g f k = refl
+integrators-order (List·Permᴰ·cons {a = a} {l₁ = us} {l₂ = vs} e d) g f k =
+    integrated-agree a (integrators us f) (integrators vs f) k (λ j l. integrators-order d (rest-pos a us g) f j)
+    ∙ ap (λ u. integrated u (integrators vs f) k) e
+integrators-order (List·Permᴰ·swap {a = a} {b = b} {l = us} e d) g f k =
+    integrated-comm a b (integrators us f) k (first-pos a (b ∷ us) g) (first-pos b us (rest-pos a (b ∷ us) g))
+    ∙ ap₂ (λ u v. integrated u (integrated v (integrators us f)) k) d e
+integrators-order (List·Permᴰ·trans d e) g f k =
+    integrators-order d g f k ∙ integrators-order e (le-trans g (le-of-eq (product-order d))) f k
 
-  -- an integrator may be moved to the front
-  integrators-inside : (t : ℕ) (us : List ℕ) (f : ℕ → ℕ) (k : ℕ) → 0 < t → 0 < product us
-      → integrated t (integrators s us f) k ≡ integrators s us (integrated t f) k
-  unfolding integrators
-  integrators-inside t [] f k g p = refl
-  integrators-inside t (u ∷ us) f k g p =
-      integrated-comm t (u * s) (integrators s us f) k g (mul-pos (first-pos u us p) h)
-      ∙ integrated-agree (u * s) (integrated t (integrators s us f)) (integrators s us (integrated t f)) k
-      (λ j l. integrators-inside t us f j g (rest-pos u us p))
+-- an integrator that comes last may come first
+pub integrators-inside : (t : ℕ) (us : List ℕ) (f : ℕ → ℕ) (k : ℕ) → 0 < t → 0 < product us
+    → integrated t (integrators us f) k ≡ integrators us (integrated t f) k
+unfolding integrators
+integrators-inside t [] f k g p = refl
+integrators-inside t (u ∷ us) f k g p =
+    integrated-comm t u (integrators us f) k g (first-pos u us p)
+    ∙ integrated-agree u (integrated t (integrators us f)) (integrators us (integrated t f)) k
+    (λ j l. integrators-inside t us f j g (rest-pos u us p))
 
-  -- A cascade undone: for each box there is left the integrator with the spread of the boxes.
-  pub cascade-undone : (ns : List ℕ) (f : ℕ → ℕ) (k : ℕ) → 0 < product ns → integrators s ns (cascaded s ns f) k ≡ integrators s (replicate (length ns) 1) f k
-  unfolding integrators cascaded
-  cascade-undone [] f k g = refl
-  cascade-undone (n ∷ ns) f k g =
-      let left : List ℕ = replicate (length ns) 1 in
-      let e : 1 * s ≡ s = one-mul s in
-      let n-pos = first-pos n ns g in
-      integrated-agree (n * s) (integrators s ns (cascaded s ns (spread s n f))) (integrators s left (spread s n f)) k
-      (λ j l. cascade-undone ns (spread s n f) j (rest-pos n ns g))
-      ∙ integrators-inside (n * s) left (spread s n f) k (mul-pos n-pos h) (ones-pos (length ns))
-      ∙ integrators-agree s left (integrated (n * s) (spread s n f)) (integrated s f) k (λ j l. integrated-box s n f j h n-pos)
-      ∙ sym (integrators-inside s left f k h (ones-pos (length ns)))
-      ∙ ap (λ t. integrated t (integrators s left f) k) (sym e)
-
--- The product of integrators on a sequence that begins with 1 tells how often each number occurs in their list: at u s it is what the
+-- The product of integrators on a sequence that begins with 1 tells how often each number occurs in their list: at u it is what the
 -- smaller numbers give there, and one more for each u.
 unfoldable below : ℕ → List ℕ → List ℕ
 below u us = keep (λ v. ltb v u) us
 
-module _ (s : ℕ) (h : 0 < s) (f : ℕ → ℕ) where
-  -- an integrator changes nothing nearer the start than its spread
-  near : (v : ℕ) (g : ℕ → ℕ) (k : ℕ) → 0 < v → k < v * s → integrated (v * s) g k ≡ g k
-  near v g k p l = omega (arith, integrated-step (v * s) g k (mul-pos p h), behind-before (integrated (v * s) g) (v * s) k l)
+-- an integrator changes nothing nearer the start than its spread
+near : (v : ℕ) (f : ℕ → ℕ) (k : ℕ) → 0 < v → k < v → integrated v f k ≡ f k
+near v f k p l = omega (arith, integrated-step v f k p, behind-before (integrated v f) v k l)
 
-  start : (us : List ℕ) → 0 < product us → integrators s us f 0 ≡ f 0
+module _ (f : ℕ → ℕ) where
+  start : (us : List ℕ) → 0 < product us → integrators us f 0 ≡ f 0
   unfolding integrators
   start [] p = refl
-  start (u ∷ us) p =
-      near u (integrators s us f) 0 (first-pos u us p) (mul-pos (first-pos u us p) h) ∙ start us (rest-pos u us p)
+  start (u ∷ us) p = near u (integrators us f) 0 (first-pos u us p) (first-pos u us p) ∙ start us (rest-pos u us p)
 
-  -- before u s only the smaller numbers count
-  before : (u : ℕ) (us : List ℕ) (k : ℕ) → 0 < product us → k < u * s → integrators s us f k ≡ integrators s (below u us) f k
+  -- before u only the smaller numbers count
+  before : (u : ℕ) (us : List ℕ) (k : ℕ) → 0 < product us → k < u → integrators us f k ≡ integrators (below u us) f k
   unfolding integrators below keep
   before u [] k p l = refl
   before u (v ∷ us) k p l =
       elim (decLt v u) [
         | yes g ↦
             rw (lt-ltb v u g)
-            (integrated-agree (v * s) (integrators s us f) (integrators s (below u us) f) k (λ j i. before u us j (rest-pos v us p) (omega arith)))
+            (integrated-agree v (integrators us f) (integrators (below u us) f) k (λ j i. before u us j (rest-pos v us p) (omega arith)))
         | no g ↦
             let m : u ≤ v = omega arith in
-            rw (le-ltb v u m)
-            (near v (integrators s us f) k (first-pos v us p) (omega (arith, mul-le-mul-right s m)) ∙ before u us k (rest-pos v us p) l)
+            rw (le-ltb v u m) (near v (integrators us f) k (first-pos v us p) (omega arith) ∙ before u us k (rest-pos v us p) l)
       ]
 
-  none : (n : ℕ) → occurs n [] ≡ 0
-  unfolding occurs total
-  none n = refl
-
   module _ (one : f 0 ≡ 1) where
-    counted : (u : ℕ) (us : List ℕ) → 0 < product us → integrators s us f (u * s) ≡ integrators s (below u us) f (u * s) + occurs u us
+    counted : (u : ℕ) (us : List ℕ) → 0 < product us → integrators us f u ≡ integrators (below u us) f u + occurs u us
     unfolding integrators below keep
-    counted u [] p = omega (arith, none u)
+    counted u [] p = omega (arith, occurs-none u)
     counted u (v ∷ us) p =
-        let all = integrators s us f in
-        let some = integrators s (below u us) f in
+        let all = integrators us f in
+        let some = integrators (below u us) f in
         let v-pos = first-pos v us p in
         let rest = counted u us (rest-pos v us p) in
-        let step = integrated-step (v * s) all (u * s) (mul-pos v-pos h) in
+        let step = integrated-step v all u v-pos in
         elim (decLt v u) [
           | yes g ↦
-              let l : v * s < u * s = mul-lt-mul-of-pos-right g h in
-              let back : integrated (v * s) all (u * s - v * s) ≡ integrated (v * s) some (u * s - v * s) =
-              integrated-agree (v * s) all some (u * s - v * s) (λ j i. before u us j (rest-pos v us p) (omega (arith, mul-pos v-pos h))) in
+              let back : integrated v all (u - v) ≡ integrated v some (u - v) =
+              integrated-agree v all some (u - v) (λ j i. before u us j (rest-pos v us p) (omega arith)) in
               rw (lt-ltb v u g)
               (omega (
                 arith,
                 step,
-                integrated-step (v * s) some (u * s) (mul-pos v-pos h),
-                behind-within (integrated (v * s) all) (v * s) (u * s) (omega arith),
-                behind-within (integrated (v * s) some) (v * s) (u * s) (omega arith),
+                integrated-step v some u v-pos,
+                behind-within (integrated v all) v u (omega arith),
+                behind-within (integrated v some) v u (omega arith),
                 back,
                 rest,
                 occurs-other u v us (λ e. omega arith),
@@ -219,17 +203,16 @@ module _ (s : ℕ) (h : 0 < s) (f : ℕ → ℕ) where
               let m : u ≤ v = omega arith in
               rw (le-ltb v u m)
               (elim (decLt u v) [
-                | yes l ↦
-                    omega (arith, near v all (u * s) v-pos (mul-lt-mul-of-pos-right l h), rest, occurs-other u v us (λ e. omega arith))
+                | yes l ↦ omega (arith, near v all u v-pos l, rest, occurs-other u v us (λ e. omega arith))
                 | no l ↦
                     let e : v ≡ u = omega arith in
-                    let z : u * s - v * s ≡ 0 = omega (arith, ap (λ w. w * s) e) in
+                    let z : u - v ≡ 0 = omega arith in
                     omega (
                       arith,
                       step,
-                      behind-within (integrated (v * s) all) (v * s) (u * s) (omega (arith, ap (λ w. w * s) e)),
-                      ap (integrated (v * s) all) z,
-                      near v all 0 v-pos (mul-pos v-pos h),
+                      behind-within (integrated v all) v u (omega arith),
+                      ap (integrated v all) z,
+                      near v all 0 v-pos v-pos,
                       start us (rest-pos v us p),
                       one,
                       rest,
@@ -238,8 +221,8 @@ module _ (s : ℕ) (h : 0 < s) (f : ℕ → ℕ) where
               ])
         ]
 
-    module _ (us vs : List ℕ) (p : 0 < product us) (q : 0 < product vs) (e : (k : ℕ) → integrators s us f k ≡ integrators s vs f k) where
-      -- as often, where the smaller numbers do
+    module _ (us vs : List ℕ) (p : 0 < product us) (q : 0 < product vs) (e : (k : ℕ) → integrators us f k ≡ integrators vs f k) where
+      -- u occurs as often in both, where every smaller number does
       next : (u : ℕ) → ((v : ℕ) → v < u → occurs v us ≡ occurs v vs) → occurs u us ≡ occurs u vs
       unfolding below
       next u i =
@@ -255,8 +238,8 @@ module _ (s : ℕ) (h : 0 < s) (f : ℕ → ℕ) where
             arith,
             counted u us p,
             counted u vs q,
-            e (u * s),
-            integrators-order s h (balanced-order (below u us) (below u vs) smaller) (keep-pos (λ v. ltb v u) us p) f (u * s),
+            e u,
+            integrators-order (balanced-order (below u us) (below u vs) smaller) (keep-pos (λ v. ltb v u) us p) f u,
           )
 
       pub integrators-counts : Balanced us vs
@@ -267,7 +250,5 @@ module _ (s : ℕ) (h : 0 < s) (f : ℕ → ℕ) where
           upto (suc u) v l =
               elim (decLt v u) [
                 | yes g ↦ upto u v g
-                | no g ↦
-                    let d : u ≡ v = omega arith in
-                    next v (λ w i. upto u w (omega arith))
+                | no g ↦ next v (λ w i. upto u w (omega arith))
               ]

@@ -2,12 +2,13 @@ pub mod Numbers
 pub mod Sums
 pub mod Lists
 pub mod Slices
+pub mod Refusals
 pub mod Sequences
 pub mod Convolution
 pub mod Kernels
 pub mod Cascades
 pub mod Counts
 pub mod Integrators
+pub mod Spreads
 pub mod Exact
 pub mod Sameness
-pub mod Refusals

@@ -1,144 +1,152 @@
--- When two cascades of boxes are the same: exactly when, with widths of 1 struck out, every width occurs as often in each list. So it is
--- for boxes with any spread, and so for the coefficients of document 01.
+-- When two recipes are the same: exactly when every width but 1 occurs as often in each list of the one as in the same list of the other.
+-- So it is for the coefficients of a list, whose boxes have a spread of 1, and for the exact sums of pictures.
 -- Assumes nothing.
-use mathlib.Core.Path.{_≡_, refl, sym, ap, ap₂, _∙_}
-use mathlib.Core.Bool.{Bool, true, false, not, cond}
-use mathlib.Core.List.{List, [], _∷_, _++_, List·Permᴰ, List·Permᴰ·nil, List·Permᴰ·cons, List·Permᴰ·swap, List·Permᴰ·trans}
+use mathlib.Core.Path.{_≡_, refl, sym, ap, ap₂, subst, _∙_}
+use mathlib.Core.Bool.{Bool, true, false, cond}
+use mathlib.Core.Logic.{_↔_}
+use mathlib.Core.List.{List, [], _∷_, map}
 use Prim.Native.Nat.{ℕ, zero, suc, _+_, _-_, _*_, _≤_, _<_}
-use native.Mathlib.Nat.{le-refl, le-trans, le-of-eq, mul-pos, mul-one, one-mul, zero-mul}
+use native.Mathlib.Nat.{le-trans, le-of-eq, mul-one, one-mul, zero-mul}
 use native.Mathlib.Decide.{decLe}
 use native.Mathlib.Omega.{arith}
 use lib.Dec.{eqb}
 use lib.ListN.{length, replicate}
 use borrow.Author.Tests.{eqb-true, eqb-false}
-use Rattle.spec.specs.Words.{sum, tab, total, product, keep, occurs}
+use Rattle.spec.specs.Words.{sum, tab, total, product, occurs}
 use Rattle.spec.specs.Recipe.{Recipe, kernel, order, gain}
 use Rattle.spec.specs.Picture.{Picture, picture, fullWidth, fullHeight, pixel, pixelBack, exact, fullRow}
 use Rattle.spec.specs.Same.{struck}
 use Rattle.laws.proofs.Sums.{sum-agree, sum-first, sum-zero}
 use Rattle.laws.proofs.Sequences.{behind, boxed, behind-zero, behind-start}
-use Rattle.laws.proofs.Lists.{tab-agree, product-append, first-pos, rest-pos}
+use Rattle.laws.proofs.Lists.{tab-agree, first-pos, rest-pos}
 use Rattle.laws.proofs.Convolution.{conv-comm}
 use Rattle.laws.proofs.Kernels.{at, at-kernel, impulse-start}
-use Rattle.laws.proofs.Cascades.{spread, cascaded, spread-unit, cascaded-agree, cascaded-conv, conv-first, conv-impulse, kernel-short}
+use Rattle.laws.proofs.Cascades.{spread, cascaded, cascaded-conv, conv-first, conv-impulse, kernel-short}
 use Rattle.laws.proofs.Exact.{line, pixel-right, pixel-below, exact-cascaded, rows-pos, columns-pos}
-use Rattle.laws.proofs.Counts.{Balanced, balanced-order, total-order, product-order, occurs-append, occurs-other, struck-one, struck-other, struck-total, struck-product}
-use Rattle.laws.proofs.Integrators.{spread-comm, integrators, integrators-agree, integrators-append, integrators-order, integrators-counts, cascade-undone, ones-pos}
+use Rattle.laws.proofs.Counts.{Balanced, balanced-order, total-order, product-order, occurs-none, occurs-here, occurs-other, struck-one, struck-other, struck-total, struck-product}
+use Rattle.laws.proofs.Spreads.{Box, boxes, ends, spreads, Balance, kernels-same}
 
--- ---- from the counts to the cascades
+-- ---- the boxes of document 01, with a spread of 1
 
--- boxes in another order
-cascaded-order : (s : ℕ) {ns ms : List ℕ} → List·Permᴰ ns ms → (f : ℕ → ℕ) (k : ℕ) → cascaded s ns f k ≡ cascaded s ms f k
-unfolding cascaded
-cascaded-order s List·Permᴰ·nil f k = refl
-cascaded-order s (List·Permᴰ·cons {a = a} {l₁ = ns} {l₂ = ms} e d) f k =
-    cascaded-order s d (spread s a f) k ∙ ap (λ n. cascaded s ms (spread s n f) k) e
-cascaded-order s (List·Permᴰ·swap {a = a} {b = b} {l = ns} e d) f k =
-    cascaded-agree s ns (spread s b (spread s a f)) (spread s a (spread s b f)) k (λ j h. spread-comm s s b a f j)
-    ∙ ap₂ (λ n m. cascaded s ns (spread s n (spread s m f)) k) e d
-cascaded-order s (List·Permᴰ·trans d e) f k = cascaded-order s d f k ∙ cascaded-order s e f k
+unfoldable plain : List ℕ → List Box
+plain ns = map (λ n. record { width = n; spread = 1 }) ns
 
--- widths of 1 struck out
-cascaded-struck : (s : ℕ) (ns : List ℕ) (f : ℕ → ℕ) (k : ℕ) → cascaded s (struck ns) f k ≡ cascaded s ns f k
-unfolding cascaded struck keep
-cascaded-struck s [] f k = refl
-cascaded-struck s (n ∷ ns) f k = go (eqb n 1) refl (λ g. cascaded-struck s ns g k)
-  where
-    go : (b : Bool) → eqb n 1 ≡ b → ((g : ℕ → ℕ) → cascaded s (struck ns) g k ≡ cascaded s ns g k)
-        → cascaded s (cond (not b) (n ∷ struck ns) (struck ns)) f k ≡ cascaded s ns (spread s n f) k
-    go true e i =
-        i f
-        ∙ cascaded-agree s ns f (spread s 1 f) k (λ j h. sym (spread-unit s f j))
-        ∙ ap (λ m. cascaded s ns (spread s m f) k) (sym (eqb-true n 1 e))
-    go false e i = i (spread s n f)
+plain-ends : (ns : List ℕ) → ends (plain ns) ≡ ns
+unfolding ends plain
+plain-ends [] = refl
+plain-ends (n ∷ ns) = ap₂ _∷_ (mul-one n) (plain-ends ns)
 
-pub counts-cascades : (ns ms : List ℕ) → Balanced (struck ns) (struck ms) → (s : ℕ) (f : ℕ → ℕ) (k : ℕ) → cascaded s ns f k ≡ cascaded s ms f k
-counts-cascades ns ms b s f k =
-    sym (cascaded-struck s ns f k) ∙ cascaded-order s (balanced-order (struck ns) (struck ms) b) f k ∙ cascaded-struck s ms f k
+plain-spreads : (ns : List ℕ) → spreads (plain ns) ≡ replicate (length ns) 1
+unfolding spreads plain
+plain-spreads [] = refl
+plain-spreads (n ∷ ns) = ap (λ l. 1 ∷ l) (plain-spreads ns)
 
--- ---- from the cascades to the counts
+plain-boxes : (ns : List ℕ) (f : ℕ → ℕ) (k : ℕ) → boxes (plain ns) f k ≡ cascaded 1 ns f k
+unfolding boxes plain cascaded
+plain-boxes [] f k = refl
+plain-boxes (n ∷ ns) f k = plain-boxes ns (spread 1 n f) k
 
--- a width other than 1, in a list with ones after it
+-- their balance is that every width but 1 occurs as often
 occurs-ones : (n m : ℕ) → (1 ≡ n → ⊥) → occurs n (replicate m 1) ≡ 0
-unfolding occurs total
-occurs-ones n zero h = refl
+occurs-ones n zero h = occurs-none n
 occurs-ones n (suc m) h = occurs-other n 1 (replicate m 1) h ∙ occurs-ones n m h
 
--- where all widths but 1 occur as often, all do with 1 struck out
-struck-balanced : (ns ms : List ℕ) → ((n : ℕ) → (1 ≡ n → ⊥) → occurs n ns ≡ occurs n ms) → Balanced (struck ns) (struck ms)
-struck-balanced ns ms e n = go (eqb n 1) refl
+all-ones : (m : ℕ) → occurs 1 (replicate m 1) ≡ m
+all-ones zero = occurs-none 1
+all-ones (suc m) = occurs-here 1 1 (replicate m 1) refl ∙ ap suc (all-ones m)
+
+-- 1 for a width other than 1
+other : ℕ → ℕ
+other n = cond (eqb n 1) 0 1
+
+ones-and-others : (ns : List ℕ) → length ns ≡ occurs 1 ns + total other ns
+unfolding occurs total other
+ones-and-others [] = refl
+ones-and-others (n ∷ ns) = go (eqb n 1) (ones-and-others ns)
   where
-    go : (b : Bool) → eqb n 1 ≡ b → occurs n (struck ns) ≡ occurs n (struck ms)
-    go true q =
-        let is : n ≡ 1 = eqb-true n 1 q in
-        ap (λ m. occurs m (struck ns)) is ∙ struck-one ns ∙ sym (ap (λ m. occurs m (struck ms)) is ∙ struck-one ms)
-    go false q =
-        let other : n ≡ 1 → ⊥ = eqb-false n 1 q in
-        struck-other n ns other ∙ e n (λ d. other (sym d)) ∙ sym (struck-other n ms other)
+    go : (b : Bool) → length ns ≡ occurs 1 ns + total other ns → suc (length ns) ≡ cond b 1 0 + occurs 1 ns + (cond b 0 1 + total other ns)
+    go true e = omega arith
+    go false e = omega arith
 
-append-pos : (ns ms : List ℕ) → 0 < product ns → 0 < product ms → 0 < product (ns ++ ms)
-append-pos ns ms p q = le-trans (mul-pos p q) (le-of-eq (sym (product-append ns ms)))
+module _ (ns ms : List ℕ) where
+  plain-counts : (u : ℕ)
+      → (occurs u (ends (plain ns)) ≡ occurs u ns) × (occurs u (ends (plain ms)) ≡ occurs u ms)
+      × (occurs u (spreads (plain ns)) ≡ occurs u (replicate (length ns) 1)) × (occurs u (spreads (plain ms)) ≡ occurs u (replicate (length ms) 1))
+  plain-counts u = (ap (occurs u) (plain-ends ns), ap (occurs u) (plain-ends ms), ap (occurs u) (plain-spreads ns), ap (occurs u) (plain-spreads ms))
 
--- On a sequence that begins with 1: both cascades are undone by the integrators of both lists, and the counts of what is left agree.
-module _ (s : ℕ) (h : 0 < s) (f : ℕ → ℕ) where
-  -- what is left of a cascade
-  undone : (ns ms : List ℕ) → 0 < product ns → (k : ℕ)
-      → integrators s (ms ++ ns) (cascaded s ns f) k ≡ integrators s (ms ++ replicate (length ns) 1) f k
-  undone ns ms p k =
-      integrators-append s ms ns (cascaded s ns f) k
-      ∙ integrators-agree s ms (integrators s ns (cascaded s ns f)) (integrators s (replicate (length ns) 1) f) k (λ j l. cascade-undone s h ns f j p)
-      ∙ sym (integrators-append s ms (replicate (length ns) 1) f k)
+  plain-balanced : Balance (plain ns) (plain ms) → Balanced (struck ns) (struck ms)
+  plain-balanced b n = go (eqb n 1) refl
+    where
+      go : (c : Bool) → eqb n 1 ≡ c → occurs n (struck ns) ≡ occurs n (struck ms)
+      go true q =
+          let is : n ≡ 1 = eqb-true n 1 q in
+          ap (λ m. occurs m (struck ns)) is ∙ struck-one ns ∙ sym (ap (λ m. occurs m (struck ms)) is ∙ struck-one ms)
+      go false q =
+          let not-one : n ≡ 1 → ⊥ = eqb-false n 1 q in
+          omega (
+            arith,
+            b n,
+            plain-counts n,
+            occurs-ones n (length ns) (λ d. not-one (sym d)),
+            occurs-ones n (length ms) (λ d. not-one (sym d)),
+            struck-other n ns not-one,
+            struck-other n ms not-one,
+          )
 
-  pub cascades-counts : f 0 ≡ 1 → (ns ms : List ℕ) → 0 < product ns → 0 < product ms
-      → ((k : ℕ) → cascaded s ns f k ≡ cascaded s ms f k) → Balanced (struck ns) (struck ms)
-  cascades-counts one ns ms p q e =
-      let us : List ℕ = ms ++ replicate (length ns) 1 in
-      let vs : List ℕ = ns ++ replicate (length ms) 1 in
-      let exchanged : Balanced (ms ++ ns) (ns ++ ms) = λ n. omega (arith, occurs-append n ms ns, occurs-append n ns ms) in
-      let agree : (k : ℕ) → integrators s us f k ≡ integrators s vs f k =
-      λ k.
-      sym (undone ns ms p k)
-      ∙ integrators-agree s (ms ++ ns) (cascaded s ns f) (cascaded s ms f) k (λ j l. e j)
-      ∙ integrators-order s h (balanced-order (ms ++ ns) (ns ++ ms) exchanged) (append-pos ms ns q p) (cascaded s ms f) k
-      ∙ undone ms ns q k in
-      let counts : Balanced us vs =
-      integrators-counts s h f one us vs
-      (append-pos ms (replicate (length ns) 1) q (ones-pos (length ns))) (append-pos ns (replicate (length ms) 1) p (ones-pos (length ms))) agree in
-      struck-balanced ns ms
-      (λ n l.
-      omega (
-        arith,
-        counts n,
-        occurs-append n ms (replicate (length ns) 1),
-        occurs-append n ns (replicate (length ms) 1),
-        occurs-ones n (length ns) l,
-        occurs-ones n (length ms) l,
-      ))
+  balanced-plain : Balanced (struck ns) (struck ms) → Balance (plain ns) (plain ms)
+  unfolding other
+  balanced-plain b n = go (eqb n 1) refl
+    where
+      others : total other ns ≡ total other ms
+      others = sym (struck-total other refl ns) ∙ total-order other (balanced-order (struck ns) (struck ms) b) ∙ struck-total other refl ms
 
--- ---- the coefficients, reach and weight of document 01
+      at-one : occurs 1 (ends (plain ns)) + occurs 1 (spreads (plain ms)) ≡ occurs 1 (ends (plain ms)) + occurs 1 (spreads (plain ns))
+      at-one = omega (arith, plain-counts 1, all-ones (length ns), all-ones (length ms), ones-and-others ns, ones-and-others ms, others)
 
--- coefficients are what the single 1 becomes
-kernel-cascaded : (ns : List ℕ) (k : ℕ) → at (kernel ns) k ≡ cascaded 1 ns (at (kernel [])) k
-kernel-cascaded ns k =
-    sym (cascaded-conv ns (at (kernel [])) k ∙ conv-comm (at (kernel ns)) (at (kernel [])) k ∙ conv-impulse (at (kernel ns)) k)
+      go : (c : Bool) → eqb n 1 ≡ c → occurs n (ends (plain ns)) + occurs n (spreads (plain ms)) ≡ occurs n (ends (plain ms)) + occurs n (spreads (plain ns))
+      go true q =
+          subst (λ u. occurs u (ends (plain ns)) + occurs u (spreads (plain ms)) ≡ occurs u (ends (plain ms)) + occurs u (spreads (plain ns)))
+          (sym (eqb-true n 1 q)) at-one
+      go false q =
+          let not-one : n ≡ 1 → ⊥ = eqb-false n 1 q in
+          omega (
+            arith,
+            b n,
+            plain-counts n,
+            occurs-ones n (length ns) (λ d. not-one (sym d)),
+            occurs-ones n (length ms) (λ d. not-one (sym d)),
+            struck-other n ns not-one,
+            struck-other n ms not-one,
+          )
 
-pub kernels-counts : (ns ms : List ℕ) → 0 < product ns → 0 < product ms → ((k : ℕ) → at (kernel ns) k ≡ at (kernel ms) k) → Balanced (struck ns) (struck ms)
-kernels-counts ns ms p q e =
-    cascades-counts 1 (le-refl 1) (at (kernel [])) (impulse-start 0 refl) ns ms p q
-    (λ k. sym (kernel-cascaded ns k) ∙ e k ∙ kernel-cascaded ms k)
+-- coefficients are the kernel of these boxes, so they agree exactly when the counts do
+plain-kernel : (ns : List ℕ) (k : ℕ) → boxes (plain ns) (at (kernel [])) k ≡ at (kernel ns) k
+plain-kernel ns k =
+    plain-boxes ns (at (kernel [])) k
+    ∙ cascaded-conv ns (at (kernel [])) k
+    ∙ conv-comm (at (kernel ns)) (at (kernel [])) k
+    ∙ conv-impulse (at (kernel ns)) k
 
+module _ (ns ms : List ℕ) (p : 0 < product ns) (q : 0 < product ms) where
+  law : ((k : ℕ) → boxes (plain ns) (at (kernel [])) k ≡ boxes (plain ms) (at (kernel [])) k) ↔ Balance (plain ns) (plain ms)
+  law = kernels-same (plain ns) (plain ms) (le-trans p (le-of-eq (ap product (sym (plain-ends ns))))) (le-trans q (le-of-eq (ap product (sym (plain-ends ms)))))
+
+  kernels-counts : ((k : ℕ) → at (kernel ns) k ≡ at (kernel ms) k) → Balanced (struck ns) (struck ms)
+  kernels-counts e = plain-balanced ns ms (law .0 (λ k. plain-kernel ns k ∙ e k ∙ sym (plain-kernel ms k)))
+
+  counts-kernels : Balanced (struck ns) (struck ms) → (k : ℕ) → at (kernel ns) k ≡ at (kernel ms) k
+  counts-kernels b k = sym (plain-kernel ns k) ∙ law .1 (balanced-plain ns ms b) k ∙ plain-kernel ms k
+
+-- so do the reach and the weight
 module _ (ns ms : List ℕ) (b : Balanced (struck ns) (struck ms)) where
-  pub counts-kernels : (k : ℕ) → at (kernel ns) k ≡ at (kernel ms) k
-  counts-kernels k = kernel-cascaded ns k ∙ counts-cascades ns ms b 1 (at (kernel [])) k ∙ sym (kernel-cascaded ms k)
-
-  pub counts-order : order ns ≡ order ms
+  counts-order : order ns ≡ order ms
   unfolding order
   counts-order =
       sym (struck-total (λ n. n - 1) refl ns)
       ∙ total-order (λ n. n - 1) (balanced-order (struck ns) (struck ms) b)
       ∙ struck-total (λ n. n - 1) refl ms
 
-  pub counts-product : product ns ≡ product ms
+  counts-product : product ns ≡ product ms
   counts-product = sym (struck-product ns) ∙ product-order (balanced-order (struck ns) (struck ms) b) ∙ struck-product ms
 
 -- ---- the exact sums
@@ -205,7 +213,7 @@ kernels-within ns ms p q x e k =
 
 module _ (a b : Recipe) where
   -- Where the counts agree, so do the grown sides, the weight and every exact sum of every picture.
-  module _ (e : Balanced (struck (a .rows)) (struck (b .rows))) (d : Balanced (struck (a .columns)) (struck (b .columns))) where
+  module _ (p : 0 < gain a) (q : 0 < gain b) (e : Balanced (struck (a .rows)) (struck (b .rows))) (d : Balanced (struck (a .columns)) (struck (b .columns))) where
     pub counts-gain : gain a ≡ gain b
     unfolding gain
     counts-gain = ap₂ _*_ (counts-product (a .rows) (b .rows) e) (counts-product (a .columns) (b .columns) d)
@@ -218,26 +226,27 @@ module _ (a b : Recipe) where
     unfolding fullHeight
     counts-height h = ap (λ n. h + n) (counts-order (a .columns) (b .columns) d)
 
-    counts-exact : (p : Picture) (i j : ℕ) → exact a p i j ≡ exact b p i j
+    counts-exact : (x : Picture) (i j : ℕ) → exact a x i j ≡ exact b x i j
     unfolding exact at
-    counts-exact p i j =
+    counts-exact x i j =
         let R = at (kernel (a .rows)) in
         let C = at (kernel (a .columns)) in
-        ap₂ (λ m n. sum (suc m) (λ u. sum (suc n) (λ v. R u * C v * pixelBack p i u j v)))
+        ap₂ (λ m n. sum (suc m) (λ u. sum (suc n) (λ v. R u * C v * pixelBack x i u j v)))
         (counts-order (a .rows) (b .rows) e) (counts-order (a .columns) (b .columns) d)
-        ∙ sum-agree (λ u. sum (suc (order (b .columns))) (λ v. R u * C v * pixelBack p i u j v))
-        (λ u. sum (suc (order (b .columns))) (λ v. at (kernel (b .rows)) u * at (kernel (b .columns)) v * pixelBack p i u j v)) (suc (order (b .rows)))
+        ∙ sum-agree (λ u. sum (suc (order (b .columns))) (λ v. R u * C v * pixelBack x i u j v))
+        (λ u. sum (suc (order (b .columns))) (λ v. at (kernel (b .rows)) u * at (kernel (b .columns)) v * pixelBack x i u j v)) (suc (order (b .rows)))
         (λ u h.
-        sum-agree (λ v. R u * C v * pixelBack p i u j v) (λ v. at (kernel (b .rows)) u * at (kernel (b .columns)) v * pixelBack p i u j v)
+        sum-agree (λ v. R u * C v * pixelBack x i u j v) (λ v. at (kernel (b .rows)) u * at (kernel (b .columns)) v * pixelBack x i u j v)
         (suc (order (b .columns)))
         (λ v l.
-        ap₂ (λ x y. x * y * pixelBack p i u j v) (counts-kernels (a .rows) (b .rows) e u) (counts-kernels (a .columns) (b .columns) d v)))
+        ap₂ (λ y z. y * z * pixelBack x i u j v) (counts-kernels (a .rows) (b .rows) (rows-pos a p) (rows-pos b q) e u)
+        (counts-kernels (a .columns) (b .columns) (columns-pos a p) (columns-pos b q) d v)))
 
-    pub counts-row : (p : Picture) (j : ℕ) → fullRow a p j ≡ fullRow b p j
+    pub counts-row : (x : Picture) (j : ℕ) → fullRow a x j ≡ fullRow b x j
     unfolding fullRow
-    counts-row p j =
-        ap (λ n. tab n (λ i. exact a p i j)) (counts-width (p .width))
-        ∙ tab-agree (fullWidth b (p .width)) (λ i. exact a p i j) (λ i. exact b p i j) (λ i h. counts-exact p i j)
+    counts-row x j =
+        ap (λ n. tab n (λ i. exact a x i j)) (counts-width (x .width))
+        ∙ tab-agree (fullWidth b (x .width)) (λ i. exact a x i j) (λ i. exact b x i j) (λ i h. counts-exact x i j)
 
   -- Where the grown sides and the exact sums of the single pixel agree, so do the counts.
   module _ (p : 0 < gain a) (q : 0 < gain b) (x : order (a .rows) ≡ order (b .rows)) (y : order (a .columns) ≡ order (b .columns))

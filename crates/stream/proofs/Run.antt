@@ -382,6 +382,10 @@ module _ (f : Filter) (p : Picture) where
 
 -- ---- the claim
 
+-- so many rows of the picture, as the calls' own number of rows
+pub first-rows : (p : Picture) (ys : List Yielded) (n : ℕ) → rows ys ≡ tab n (pictureRow p) → FirstRows p ys
+first-rows p ys n e = e ∙ ap (λ m. tab m (pictureRow p)) (sym (ap length e ∙ length-tab n (pictureRow p)))
+
 -- From an accepted start of a picture's sides, with any cells.
 module _ (f : Filter) (p : Picture) (cells : List ℕ) (begins : first (startChecks (recipe f) (p .width) (p .height) (length cells)) ≡ 0) where
   needed : ℕ
@@ -454,14 +458,13 @@ module _ (f : Filter) (p : Picture) (cells : List ℕ) (begins : first (startChe
 
   -- all rows and then ry drains are accepted
   taken : (outs : ℕ → List ℕ) → ((k : ℕ) → length (outs k) ≡ fullWidth (recipe f) (p .width))
-      → let ys = run (whole p (order (recipe f .columns)) outs) (at f p 0) ready in FirstRows p ys × (length ys ≡ fullHeight (recipe f) (p .height))
+      → let ys = run (whole p (order (recipe f .columns)) outs) (at f p 0) ready in
+      (rows ys ≡ tab (p .height) (pictureRow p)) × (length ys ≡ fullHeight (recipe f) (p .height))
   unfolding r needed
   taken outs wide =
       let calls = whole p (order (recipe f .columns)) outs in
       let all = due-all f p calls 0 ready (whole-due f p (asked .0) outs wide) (honest .enough) in
-      let in-rows = all .rowsIn ∙ whole-given f p (asked .0) outs wide in
-      let count : length (rows (run calls (at f p 0) ready)) ≡ p .height = ap length in-rows ∙ length-tab (p .height) (pictureRow p) in
-      (in-rows ∙ ap (λ n. tab n (pictureRow p)) (sym count), all .many ∙ whole-length f p (asked .0) outs wide)
+      (all .rowsIn ∙ whole-given f p (asked .0) outs wide, all .many ∙ whole-length f p (asked .0) outs wide)
 
   holds : OnePass f p cells
   unfolding r needed
@@ -478,12 +481,12 @@ module _ (f : Filter) (p : Picture) (cells : List ℕ) (begins : first (startChe
             λ calls out.
             number-so calls (aDrain out)
             ∙ drain-number f p (asked .0) (length (acceptedCalls f p cells calls)) (most calls) (carried calls (at f p 0) ready .cells) (after calls .1) out;
-        rowsTaken = λ outs wide. subst (FirstRows p) (sym (runs (whole p (order (recipe f .columns)) outs))) (taken outs wide .0);
+        rowsTaken = λ outs wide. ap rows (runs (whole p (order (recipe f .columns)) outs)) ∙ taken outs wide .0;
         allRows =
             λ small outs wide.
             let calls = whole p (order (recipe f .columns)) outs in
             ap outputs (runs calls)
-            ∙ exact-so small calls (taken outs wide .0)
+            ∙ exact-so small calls (first-rows p (run calls (at f p 0) ready) (p .height) (taken outs wide .0))
             ∙ ap (λ n. tab n (fullRow (recipe f) p)) (taken outs wide .1);
       }
     where

@@ -52,7 +52,7 @@ pub record OnePass (f : Filter) (p : Picture) (cells : List ℕ) : Type 0 where
       ∷ check (otherOutput (length out) (fullWidth (recipe f) (p .width))) 7 ∷ [])
   -- All rows of the picture and then ry drains, with outputs of the grown width: every row is accepted, and all grown rows are yielded.
   pub rowsTaken : (outs : ℕ → List ℕ) → ((k : ℕ) → length (outs k) ≡ fullWidth (recipe f) (p .width))
-      → FirstRows p (acceptedCalls f p cells (whole p (order (recipe f .columns)) outs))
+      → rows (acceptedCalls f p cells (whole p (order (recipe f .columns)) outs)) ≡ tab (p .height) (pictureRow p)
   pub allRows : Bytes p → (outs : ℕ → List ℕ) → ((k : ℕ) → length (outs k) ≡ fullWidth (recipe f) (p .width))
       → outputs (acceptedCalls f p cells (whole p (order (recipe f .columns)) outs)) ≡ tab (fullHeight (recipe f) (p .height)) (fullRow (recipe f) p)
 

@@ -167,6 +167,8 @@ fn comparing() {
     let [a, b] = alternate([&mut || compare_all(&pairs, bore::equivalent), &mut || {
         compare_all(&pairs, equivalent::equivalent)
     }]);
+    println!("Comparing call: the Rust version counts both lists of an axis in one loop.");
+    println!();
     println!("| Comparing call | Library, µs | Rust, µs | Library / Rust |");
     println!("|---|---|---|---|");
     let name = "48 widths each way, shuffled, equal";

@@ -1,5 +1,4 @@
-//! Prints whether two recipes are equal, so that the walls filtered by the one may be held beside those
-//! filtered by the other; or the refusal.
+//! Prints whether two recipes are equal, or the refusal.
 //!
 //! Usage: compare ROWS COLUMNS ROWS COLUMNS, the lists as widths with commas, `-` for an empty list.
 

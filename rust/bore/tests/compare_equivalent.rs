@@ -1,6 +1,7 @@
-//! The comparing call beside the reference, on random pairs of filters: such as
-//! are equal, differ in one place, are near misses or are refused. BORE_CASES
-//! and BORE_SEED set the random cases as they do for the calls on a filter.
+//! The comparing call beside the reference: on random pairs of filters, which
+//! are equal, differ in one place, are unrelated or are refused, and on near
+//! misses. BORE_CASES and BORE_SEED set the random cases as they do for the
+//! calls on a filter.
 
 mod common;
 
@@ -101,8 +102,8 @@ fn unrelated_pairs_agree() {
     each_pair(unrelated);
 }
 
-/// The same 48 bytes on each axis, with a lower count on one axis: the widths
-/// that the lower count leaves out are not compared.
+/// The same 48 bytes on each axis, with a lower count on one axis, in both
+/// orders: the widths that the lower count leaves out are not compared.
 fn cut(seed: u64) -> Answer {
     let mut random = Random::new(seed);
     let recipe = accepted_recipe(&mut random);
@@ -116,13 +117,12 @@ fn cut(seed: u64) -> Answer {
     let left_out = &cascade.widths[kept..cascade.count.into()];
     let equal = left_out.iter().all(|&n| n == 1);
     cascade.count = kept as u8;
+    let [long, short] = [long, short].map(|filter| Case::new(&mut random, seed, filter));
     for (a, b) in [(&long, &short), (&short, &long)] {
-        let mut same = 0xA5;
-        assert_eq!(bore::equivalent(a, b, &mut same), 0, "seed {seed}");
-        assert_eq!(same, u8::from(equal), "seed {seed}: {long:?}, {short:?}");
+        let answer = agree::equivalent(a, b, &mut random);
+        assert_eq!(answer, Ok(equal), "{a:?}, {b:?}");
     }
-    let [a, b] = [long, short].map(|filter| Case::fixed(&mut random, filter));
-    agree::equivalent(&a, &b, &mut random)
+    Ok(equal)
 }
 
 #[test]
@@ -130,8 +130,9 @@ fn widths_past_the_count_are_not_compared() {
     each_pair(cut);
 }
 
-/// Two filters of any kind, refused ones among them. Half the time the second
-/// is the first with a change in one byte.
+/// Two filters of any kind, refused ones among them: the answer, and the number
+/// of each alone. Half the time the second is the first with a change in one
+/// byte.
 fn any_pair(seed: u64) -> (Answer, [u8; 2]) {
     let (a, mut random) = Case::random(seed);
     let mut other = any_filter(&mut random);
@@ -139,10 +140,7 @@ fn any_pair(seed: u64) -> (Answer, [u8; 2]) {
         other = a.filter;
         damage(&mut random, &mut other);
     }
-    let b = Case {
-        seed,
-        ..Case::fixed(&mut random, other)
-    };
+    let b = Case::new(&mut random, seed, other);
     let answer = agree::equivalent(&a, &b, &mut random);
     (answer, [agree::check(&a), agree::check(&b)])
 }
@@ -152,7 +150,7 @@ fn pairs_of_any_kind_agree() {
     each_pair(|seed| any_pair(seed).0);
 }
 
-/// A recipe and any relative of it, both ways round. At most one of them is
+/// A recipe and any relative of it in both orders. At most one of them is
 /// refused, so the number does not change either.
 fn both_ways(seed: u64) -> Answer {
     let mut random = Random::new(seed);
@@ -195,8 +193,9 @@ fn compare_twice(random: &mut Random, seed: u64, a: &Recipe, b: &Recipe) -> Answ
     answer
 }
 
-/// Compares every pair along the rows, down the columns, and both ways.
-fn have_to_be_told_apart(pairs: Vec<[Vec<u8>; 2]>) {
+/// Compares the two lists of every pair on one axis and on both. The recipes are
+/// equal only where both have the same list on each axis.
+fn compare_on_axes(pairs: Vec<[Vec<u8>; 2]>) {
     let mut random = Random::new(1);
     for [x, y] in pairs {
         for (a, b, equal) in [
@@ -216,7 +215,7 @@ fn have_to_be_told_apart(pairs: Vec<[Vec<u8>; 2]>) {
 
 #[test]
 fn near_misses_are_told_apart() {
-    have_to_be_told_apart(near_misses());
+    compare_on_axes(near_misses());
 }
 
 #[test]
@@ -224,7 +223,10 @@ fn lists_with_equal_powers_are_told_apart() {
     let pairs = equal_powers();
     assert!(pairs.contains(&[vec![1, 5, 8, 12], vec![2, 3, 10, 11]]));
     assert_eq!(pairs.len(), 1_182);
-    have_to_be_told_apart(pairs);
+    // None of them is a near miss.
+    let weight = |list: &[u8]| reference::weight(&Recipe::new(list, &[]));
+    assert!(pairs.iter().all(|[x, y]| weight(x) != weight(y)));
+    compare_on_axes(pairs);
 }
 
 /// How many near misses there are, how many of them have a different number of
@@ -305,8 +307,8 @@ fn near_misses_with_other_widths_agree() {
     each_pair(|seed| extended(seed, &pairs));
 }
 
-/// Whether the first cases meet a no and a yes often enough where these are
-/// due, and otherwise never.
+/// The first cases have to meet a no, and a yes, often where it is due and never
+/// where it is not.
 fn meets(due: [bool; 2], compare: impl Fn(u64) -> Answer) {
     let mut met = [0; 2];
     for seed in 0..1000 {

@@ -8,7 +8,8 @@
 
 mod common;
 
-use bore::{Filter, Moments};
+use bore::Filter;
+use common::accepted::{equal, moments};
 use common::near_misses::near_misses;
 use common::pairs::{disguised, MAKERS};
 use common::three::each_method;
@@ -29,31 +30,21 @@ impl Shown {
         let mut sides = (0, 0);
         let number = bore::full_size(filter, width, height, &mut sides.0, &mut sides.1);
         assert_eq!(number, 0, "{filter:?}");
-        let mut moments = Moments::default();
-        assert_eq!(bore::moments(filter, &mut moments), 0, "{filter:?}");
         let sums = each_method(filter, width, height, pixels);
         Shown {
             sides,
-            weight: moments.gain,
+            weight: moments(filter).gain,
             sums: sums.map(|sums| sums.expect("the recipe and the picture are accepted")),
         }
     }
 
-    /// Whether all agrees with another, for each method of the one with each of
-    /// the other.
+    /// Whether sides, weight and sums agree with another's, for each method of
+    /// the one with each of the other.
     fn agreements(&self, other: &Shown) -> [[bool; 3]; 3] {
         let alike = self.sides == other.sides && self.weight == other.weight;
         let sums = |one: &Vec<u64>| other.sums.each_ref().map(|sums| alike && one == sums);
         self.sums.each_ref().map(sums)
     }
-}
-
-/// The answer of the call on two accepted filters.
-fn equal(a: &Filter, b: &Filter) -> bool {
-    let mut same = 0xA5;
-    assert_eq!(bore::equivalent(a, b, &mut same), 0, "{a:?}, {b:?}");
-    assert!(same <= 1, "{same}, {a:?}, {b:?}");
-    same == 1
 }
 
 /// All lists of up to two widths from 1 to 4 in any order, and some others.
@@ -172,8 +163,8 @@ fn random_pairs_meet_both_answers() {
     assert!(met.iter().all(|&count| count >= 100), "{met:?}");
 }
 
-/// The grown rows that a list of row calls and drains yields. It ends after any
-/// of them, and refused calls stand among them.
+/// The grown rows that a list of row calls and drains yields. The list may end
+/// before all are out, and refused calls stand among the others.
 fn yielded(random: &mut Random, filter: &Filter, picture: &[&[u8]]) -> Vec<Vec<u64>> {
     let recipe = recipe_of(filter);
     let (width, height) = (picture[0].len(), picture.len());
@@ -187,7 +178,7 @@ fn yielded(random: &mut Random, filter: &Filter, picture: &[&[u8]]) -> Vec<Vec<u
     let mut count = 0;
     for j in 0..random.between(0, all) {
         while random.coin() {
-            // An output of no length is refused if nothing else is.
+            // An empty output is refused by 7 where 10 does not come first.
             let number = match random.coin() {
                 true => bore::push(&mut state, picture[0], &mut [], &mut cells, &mut count),
                 false => bore::drain(&mut state, &mut [], &mut cells, &mut count),
@@ -205,8 +196,8 @@ fn yielded(random: &mut Random, filter: &Filter, picture: &[&[u8]]) -> Vec<Vec<u
     rows
 }
 
-/// How many rows both lists yield for two recipes that are equal; these rows
-/// have to agree.
+/// How many rows two lists of calls both yield, for two recipes that are equal;
+/// these rows have to agree.
 fn rows_in_common(seed: u64) -> usize {
     let mut random = Random::new(seed);
     let recipe = random.valid_recipe(8);

@@ -1,34 +1,27 @@
-//! The comparing call at each limit of document 01: every answer and every
-//! number stands here as the paper gives it. Nearly every call is compared with
-//! the reference too.
+//! The comparing call at each limit of document 01 and on fixed pairs: every
+//! answer and every number stands here as the paper gives it. Nearly every call
+//! is compared with the reference too.
 
 mod common;
 
 use bore::{Cascade, Filter};
+use common::accepted::{equal, moments};
 use common::agree::Answer;
 use common::{agree, filter, from_bits, list_of_reach, on_axis, shuffled, with_refusals};
 use common::{Case, ABOVE, BELOW, WRAPPED};
 use reference::random::Random;
 
-/// Compares the call on two filters, which it has to answer so.
+/// Compares the call on two filters, which has to give this answer.
 fn expect(random: &mut Random, a: Filter, b: Filter, expected: Answer) {
     let [a, b] = [a, b].map(|filter| Case::fixed(random, filter));
     let answer = agree::equivalent(&a, &b, random);
     assert_eq!(answer, expected, "{a:?}, {b:?}");
 }
 
-/// Compares the call on two filters both ways round. The answer or the only
-/// number is the same.
+/// Compares the call on two filters in both orders, with the same answer.
 fn expect_both_ways(random: &mut Random, a: Filter, b: Filter, expected: Answer) {
     expect(random, a, b, expected);
     expect(random, b, a, expected);
-}
-
-/// The answer for accepted filters without the reference.
-fn answer(a: &Filter, b: &Filter) -> u8 {
-    let mut same = 0xA5;
-    assert_eq!(bore::equivalent(a, b, &mut same), 0, "{a:?}, {b:?}");
-    same
 }
 
 /// One of the four lists of two filters.
@@ -97,9 +90,9 @@ fn every_place_of_full_lists() {
             c[(j + 1) % 48] = 2;
             for on_rows in [true, false] {
                 let [a, b, c] = [a, b, c].map(|list| on_axis(&list, on_rows));
-                assert_eq!(answer(&a, &b), 1, "places {i} and {j}");
-                assert_eq!(answer(&a, &c), 0, "places {i} and {j}");
-                assert_eq!(answer(&c, &a), 0, "places {i} and {j}");
+                assert!(equal(&a, &b), "places {i} and {j}");
+                assert!(!equal(&a, &c), "places {i} and {j}");
+                assert!(!equal(&c, &a), "places {i} and {j}");
             }
         }
     }
@@ -128,25 +121,25 @@ fn width_0_at_any_place_of_every_list() {
     }
 }
 
-/// Each width alone beside each other alone, and beside itself with a 1.
+/// Each width beside each, alone and between two 1s, and each along the rows
+/// beside itself down the columns.
 #[test]
 fn every_width_beside_every_other() {
     for n in 1..=255 {
         for m in 1..=255 {
             for on_rows in [true, false] {
-                let same = u8::from(n == m);
                 let [a, b] = [n, m].map(|n| on_axis(&[n], on_rows));
-                assert_eq!(answer(&a, &b), same, "{n} and {m}");
+                assert_eq!(equal(&a, &b), n == m, "{n} and {m}");
                 let b = on_axis(&[1, m, 1], on_rows);
-                assert_eq!(answer(&a, &b), same, "{n} and 1, {m}, 1");
+                assert_eq!(equal(&a, &b), n == m, "{n} and 1, {m}, 1");
             }
         }
-        let crossed = answer(&on_axis(&[n], true), &on_axis(&[n], false));
-        assert_eq!(crossed, u8::from(n == 1), "{n} along and {n} down");
+        let crossed = equal(&on_axis(&[n], true), &on_axis(&[n], false));
+        assert_eq!(crossed, n == 1, "{n} along and {n} down");
     }
 }
 
-/// So many equal widths beside so many others, as far as they are accepted.
+/// Every number of equal widths beside every other, as far as they are accepted.
 #[test]
 fn every_number_of_equal_widths() {
     let mut random = Random::new(4);
@@ -289,5 +282,29 @@ fn every_byte_before_the_call() {
                 assert_eq!(same, before, "{number}");
             }
         }
+    }
+}
+
+#[test]
+fn rows_are_not_columns() {
+    let mut random = Random::new(9);
+    for (a, b, expected) in [
+        (filter(&[2, 3], &[]), filter(&[], &[2, 3]), false),
+        (filter(&[3], &[2]), filter(&[2], &[3]), false),
+        (filter(&[2, 2], &[2, 2]), filter(&[2, 2], &[]), false),
+        (filter(&[3, 2], &[2, 1]), filter(&[2, 3], &[2]), true),
+    ] {
+        expect_both_ways(&mut random, a, b, Ok(expected));
+    }
+}
+
+#[test]
+fn scale_card_and_count_do_not_decide() {
+    let mut random = Random::new(10);
+    for on_rows in [true, false] {
+        let lists = [[2, 6, 7, 15], [3, 3, 10, 14]];
+        let [a, b] = lists.map(|list| on_axis(&list, on_rows));
+        assert_eq!(moments(&a), moments(&b));
+        expect_both_ways(&mut random, a, b, Ok(false));
     }
 }

@@ -5,7 +5,8 @@
 
 mod common;
 
-use bore::{Filter, Moments};
+use bore::Filter;
+use common::accepted::{equal, moments};
 use common::three::three_methods;
 use common::{cascade, filter};
 
@@ -16,33 +17,25 @@ fn kernel(list: &[u8]) -> Vec<u64> {
     out
 }
 
-fn moments(filter: &Filter) -> Moments {
-    let mut moments = Moments::default();
-    assert_eq!(bore::moments(filter, &mut moments), 0, "{filter:?}");
-    moments
-}
-
 fn full_size(filter: &Filter, width: usize, height: usize) -> (u8, usize, usize) {
     let (mut full_width, mut full_height) = (0, 0);
     let number = bore::full_size(filter, width, height, &mut full_width, &mut full_height);
     (number, full_width, full_height)
 }
 
-/// The answer of the comparing call for two accepted filters, which is the same
-/// both ways round.
-fn equal(a: &Filter, b: &Filter) -> bool {
-    let [mut there, mut back] = [7, 7];
-    assert_eq!(bore::equivalent(a, b, &mut there), 0, "{a:?}, {b:?}");
-    assert_eq!(bore::equivalent(b, a, &mut back), 0, "{a:?}, {b:?}");
-    assert_eq!(there, back, "{a:?}, {b:?}");
-    assert!(there <= 1, "{there}, {a:?}, {b:?}");
-    there == 1
+/// Whether two accepted filters are equal. The answer has to be the same in both
+/// orders.
+fn equal_filters(a: &Filter, b: &Filter) -> bool {
+    let answer = equal(a, b);
+    assert_eq!(equal(b, a), answer, "{a:?}, {b:?}");
+    answer
 }
 
-/// That answer for two lists along the rows, which is the same down the columns.
+/// Whether two lists are equal along the rows. The answer has to be the same
+/// down the columns.
 fn equal_lists(a: &[u8], b: &[u8]) -> bool {
-    let along = equal(&filter(a, &[]), &filter(b, &[]));
-    let down = equal(&filter(&[], a), &filter(&[], b));
+    let along = equal_filters(&filter(a, &[]), &filter(b, &[]));
+    let down = equal_filters(&filter(&[], a), &filter(&[], b));
     assert_eq!(along, down, "{a:?}, {b:?}");
     along
 }
@@ -79,49 +72,14 @@ fn equal_and_unequal_recipes() {
     assert!(equal_lists(&[3, 2], &[2, 3]));
     assert!(!equal_lists(&[4], &[2, 2]));
     assert!(equal_lists(&[1], &[]));
-    assert!(!equal_lists(&[2, 6, 6], &[3, 3, 8]));
-    assert!(equal_lists(&[2, 2, 2, 2], &[2, 2, 2, 2]));
-    assert!(!equal_lists(&[2, 2, 2, 2], &[2, 2, 2]));
 }
 
-#[test]
-fn rows_are_not_columns() {
-    assert!(!equal(&filter(&[2, 3], &[]), &filter(&[], &[2, 3])));
-    assert!(!equal(&filter(&[3], &[2]), &filter(&[2], &[3])));
-    assert!(!equal(&filter(&[2, 2], &[2, 2]), &filter(&[2, 2], &[])));
-    assert!(equal(&filter(&[3, 2], &[2, 1]), &filter(&[2, 3], &[2])));
-}
-
-/// Neither the scale card nor the number of widths decides, on both axes
-/// together.
+/// On each axis reach, weight and count are the same, the widths are not.
 #[test]
 fn reach_weight_and_count_do_not_decide() {
-    let [a, b] = [
-        filter(&[2, 6, 6], &[3, 3, 8]),
-        filter(&[3, 3, 8], &[2, 6, 6]),
-    ];
-    assert!(!equal(&a, &b));
-    // These have the same variance too.
-    let lists = [[2, 6, 7, 15], [3, 3, 10, 14]];
-    let [a, b] = lists.map(|list| filter(&list, &[]));
-    assert_eq!(moments(&a), moments(&b));
-    assert!(!equal(&a, &b));
-}
-
-#[test]
-fn the_first_recipe_is_refused_before_the_second() {
-    let blur = filter(&[2, 2], &[2, 2]);
-    let [far, heavy] = [filter(&[255, 3], &[]), filter(&[2; 23], &[2; 22])];
-    for (a, b, number) in [
-        (&far, &blur, 3),
-        (&blur, &far, 3),
-        (&heavy, &far, 4),
-        (&far, &heavy, 3),
-    ] {
-        let mut same = 7;
-        assert_eq!(bore::equivalent(a, b, &mut same), number);
-        assert_eq!(same, 7);
-    }
+    let [x, y] = [[2, 6, 6], [3, 3, 8]];
+    assert!(!equal_lists(&x, &y));
+    assert!(!equal_filters(&filter(&x, &y), &filter(&y, &x)));
 }
 
 #[test]

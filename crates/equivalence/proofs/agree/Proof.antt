@@ -4,12 +4,12 @@ use mathlib.Core.Path.{sym, subst}
 use mathlib.Core.Logic.{⊎-elim}
 use Prim.Native.Nat.{_+_, _-_}
 use borrow.Author.Needs.{needs}
-use Rattle.equivalence.proofs.Tallies.{Compared, compared-none, compared-same, compared-other, compared-all}
+use Rattle.equivalence.proofs.Tallies.{AlikeBefore, compared-none, compared-same, compared-other, compared-all}
 use Rattle.equivalence.proofs.agree.Statement.{statement}
 use Rattle.equivalence.proofs.agree.Tie as tie
 
 abbrev Inv-loop : tie.InvT-loop
-Inv-loop a b same₀ n₀ same n = Compared a b same n
+Inv-loop a b same₀ n₀ same n = AlikeBefore a b same n
 
 abbrev μ-loop : tie.MeasureT-loop
 μ-loop a b same₀ n₀ same n = 256 - n
@@ -35,10 +35,10 @@ loop-again c =
     let turn = c .before .before .before .before .loop in
     ⊎-elim
     (λ then.
-    subst (λ same. Compared (args .a .now) (args .b .now) same (turn .n + 1)) (sym (then .1))
+    subst (λ same. AlikeBefore (args .a .now) (args .b .now) same (turn .n + 1)) (sym (then .1))
     (compared-other (args .a .now) (args .b .now) (turn .same) (turn .n) (turn .inv) (search needs) (then .0 .taken)))
     (λ else.
-    subst (λ same. Compared (args .a .now) (args .b .now) same (turn .n + 1)) (sym (else .1))
+    subst (λ same. AlikeBefore (args .a .now) (args .b .now) same (turn .n + 1)) (sym (else .1))
     (compared-same (args .a .now) (args .b .now) (turn .same) (turn .n) (turn .inv) (else .0 .left)))
     (c .if1 .came)
 

@@ -1,6 +1,7 @@
 //! One function for each call on a filter or on two: it makes the call for a
 //! case's filter and for the twin, compares the number and all that was lent
-//! with the reference, and returns the number.
+//! with the reference, and returns the number; `equivalent` returns the answer
+//! or the number.
 //!
 //! What is lent holds random bits before the call and stands in the middle of
 //! other random bits. The whole is compared, so a refused call has to leave

@@ -3,8 +3,9 @@
 //! `pictures` random pictures, in `pairs` and `near_misses` pairs of recipes,
 //! and the comparison of each call with the reference: in `agree` the calls on
 //! filters, in `agree_methods` direct and pass by pass, in `agree_stream` the
-//! one pass, whose work cells `cells` models. `three` has all three methods for
-//! tests of the sums alone.
+//! one pass, whose work cells `cells` models. `accepted` has calls on accepted
+//! filters for tests of their answers alone, `three` all three methods for tests
+//! of the sums alone.
 //!
 //! The environment sets the random cases: BORE_CASES is their number for each
 //! test, BORE_SEED the seed of the first; each case has the next seed. A test
@@ -13,6 +14,7 @@
 // Each test file uses a part of this one.
 #![allow(dead_code)]
 
+pub mod accepted;
 pub mod agree;
 pub mod agree_methods;
 pub mod agree_stream;
@@ -89,13 +91,18 @@ pub struct Case {
 }
 
 impl Case {
+    /// A filter with a random twin.
+    pub fn new(random: &mut Random, seed: u64, filter: Filter) -> Case {
+        let twin = refilled(random, &filter);
+        Case { seed, filter, twin }
+    }
+
     /// The case of a seed with a filter drawn by `draw`, and its generator for
     /// further choices.
     pub fn drawn(seed: u64, draw: impl Fn(&mut Random) -> Filter) -> (Case, Random) {
         let mut random = Random::new(seed);
         let filter = draw(&mut random);
-        let twin = refilled(&mut random, &filter);
-        (Case { seed, filter, twin }, random)
+        (Case::new(&mut random, seed, filter), random)
     }
 
     /// The random case of a seed for a call on a filter.
@@ -105,12 +112,7 @@ impl Case {
 
     /// The case of a given filter.
     pub fn fixed(random: &mut Random, filter: Filter) -> Case {
-        let twin = refilled(random, &filter);
-        Case {
-            seed: 0,
-            filter,
-            twin,
-        }
+        Case::new(random, 0, filter)
     }
 
     pub fn recipe(&self) -> Recipe {

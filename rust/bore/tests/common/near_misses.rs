@@ -1,10 +1,10 @@
 //! Near misses: two different lists that have the same length, the same reach
-//! and the same weight, as 2,6,6 and 3,3,8 have; and lists that are alike in
-//! other numbers.
+//! and the same weight, as 2,6,6 and 3,3,8 have; and different lists that have
+//! the same sums of powers.
 
 use std::collections::BTreeMap;
 
-/// How long the lists are and which is the widest width in them.
+/// The length of the lists, and the widest width that may stand in them.
 const BOUNDS: [(usize, u8); 4] = [(3, 40), (4, 20), (5, 16), (6, 12)];
 
 /// All rising lists of this many widths from `least` to `widest`.
@@ -53,8 +53,10 @@ pub fn near_misses() -> Vec<[Vec<u8>; 2]> {
     })
 }
 
-/// The pairs with the same sums of widths, of their squares and of their cubes,
-/// and so with the same reach and the same variance.
+/// The pairs with the same sums of widths, of their squares and of their cubes.
+/// The first two sums give the reach and the variance of the scale card. A
+/// comparison by the three sums would tell all near misses apart, but not these
+/// pairs.
 pub fn equal_powers() -> Vec<[Vec<u8>; 2]> {
     pairs_of_equal(|list| [1, 2, 3].map(|power| power_sum(list, power)))
 }

@@ -30,10 +30,7 @@ pub fn accepted_recipe(random: &mut Random) -> Recipe {
 /// The case of a recipe.
 pub fn case_of(random: &mut Random, seed: u64, recipe: &Recipe) -> Case {
     let filter = filter(&recipe.rows, &recipe.columns);
-    Case {
-        seed,
-        ..Case::fixed(random, filter)
-    }
+    Case::new(random, seed, filter)
 }
 
 /// A list without its widths of 1.

@@ -5,7 +5,7 @@ use native.Mathlib.Omega.{arith}
 use borrow.Author.Needs.{needs}
 use Rattle.spec.specs.Recipe.{recipe}
 use Rattle.laws.proofs.Refusals.{answer-refused, answer-accepted}
-use Rattle.filter.proofs.Refusal.{number-is, known, known-counts}
+use Rattle.filter.proofs.Refusal.{number-is, known, accepted-counts}
 use Rattle.spec.specs.Gray.{scaleCard}
 use Rattle.spec.specs.Refusals.{accepted}
 use Rattle.filter.proofs.card.moments.Statement.{statement}
@@ -18,10 +18,10 @@ returns : tie.Need-returns
 returns c = sym (answer-refused _ _ _ (sym (number-is _ _ (c .before .measure .ensures))) (c .if1 .taken))
 
 variance-requires : tie.Need-variance-requires
-variance-requires c κs = omega (arith, known-counts _ (known _ _ (c .before .measure .ensures) (c .if1 .left)))
+variance-requires c κs = omega (arith, accepted-counts _ (known _ _ (c .before .measure .ensures) (c .if1 .left) .accepted))
 
 variance-requires-2 : tie.Need-variance-requires-2
-variance-requires-2 c κs = omega (arith, known-counts _ (known _ _ (c .before .before .measure .ensures) (c .before .if1 .left)))
+variance-requires-2 c κs = omega (arith, accepted-counts _ (known _ _ (c .before .before .measure .ensures) (c .before .if1 .left) .accepted))
 
 returns-2 : tie.Need-returns-2
 unfolding recipe scaleCard

@@ -8,7 +8,7 @@ use mathlib.Core.Bool.{false}
 use Rattle.spec.specs.Recipe.{recipe}
 use Rattle.spec.specs.Refusals.{badSide, cellChecks, Answer, accepted as accepted-as}
 use Rattle.laws.proofs.Refusals.{good-side}
-use Rattle.filter.proofs.Refusal.{Known, known, known-counts, told-refused, told-then, told-accepted}
+use Rattle.filter.proofs.Refusal.{Known, known, accepted-counts, told-refused, told-then, told-accepted}
 use native.Mathlib.Nat.{mul-le-mul}
 use Rattle.spec.specs.Picture.{fullWidth}
 use Rattle.spec.specs.Stream.{streamCells}
@@ -39,10 +39,10 @@ accepted c =
     (known _ _ (now .measure .ensures) (c .before .before .if1 .left), sym (c .before .bad-side .ensures) ∙ c .if2 .left)
 
 cascade-cells-requires : tie.Need-cascade-cells-requires
-cascade-cells-requires c κs = known-counts _ (accepted c .0) .0
+cascade-cells-requires c κs = accepted-counts _ (accepted c .0 .accepted) .0
 
 cascade-cells-requires-2 : tie.Need-cascade-cells-requires-2
-cascade-cells-requires-2 c κs = known-counts _ (accepted (c .before) .0) .1
+cascade-cells-requires-2 c κs = accepted-counts _ (accepted (c .before) .0 .accepted) .1
 
 -- the grown width, and the cells of all columns
 wide : (c : tie.Else2) → let now = c .before .before .before in now .before .args .width + now .measure .result .«row_order» ≤ 1279
