@@ -11,7 +11,7 @@ abbrev Inv-loop : tie.InvT-loop
 Inv-loop counts₀ list count i₀ counts i = Tallied list count counts i
 
 abbrev μ-loop : tie.MeasureT-loop
-μ-loop counts₀ list count i₀ counts i = count - i
+μ-loop counts₀ list count i₀ counts i = 48 - i
 
 cast-count : tie.Need-cast-count Inv-loop μ-loop
 cast-count c = search needs
