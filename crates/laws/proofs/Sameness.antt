@@ -74,6 +74,15 @@ module _ (ns ms : List ℕ) where
       × (occurs u (spreads (plain ns)) ≡ occurs u (replicate (length ns) 1)) × (occurs u (spreads (plain ms)) ≡ occurs u (replicate (length ms) 1))
   plain-counts u = (ap (occurs u) (plain-ends ns), ap (occurs u) (plain-ends ms), ap (occurs u) (plain-spreads ns), ap (occurs u) (plain-spreads ms))
 
+  -- at a width other than 1
+  at-other : (n : ℕ) → (n ≡ 1 → ⊥)
+      → (occurs n (ends (plain ns)) + occurs n (spreads (plain ms)) ≡ occurs n (struck ns))
+      × (occurs n (ends (plain ms)) + occurs n (spreads (plain ns)) ≡ occurs n (struck ms))
+  at-other n h =
+      let ns-none = occurs-ones n (length ns) (λ d. h (sym d)) in
+      let ms-none = occurs-ones n (length ms) (λ d. h (sym d)) in
+      (omega (arith, plain-counts n, ms-none, struck-other n ns h), omega (arith, plain-counts n, ns-none, struck-other n ms h))
+
   plain-balanced : Balance (plain ns) (plain ms) → Balanced (struck ns) (struck ms)
   plain-balanced b n = go (eqb n 1) refl
     where
@@ -81,17 +90,7 @@ module _ (ns ms : List ℕ) where
       go true q =
           let is : n ≡ 1 = eqb-true n 1 q in
           ap (λ m. occurs m (struck ns)) is ∙ struck-one ns ∙ sym (ap (λ m. occurs m (struck ms)) is ∙ struck-one ms)
-      go false q =
-          let not-one : n ≡ 1 → ⊥ = eqb-false n 1 q in
-          omega (
-            arith,
-            b n,
-            plain-counts n,
-            occurs-ones n (length ns) (λ d. not-one (sym d)),
-            occurs-ones n (length ms) (λ d. not-one (sym d)),
-            struck-other n ns not-one,
-            struck-other n ms not-one,
-          )
+      go false q = omega (arith, b n, at-other n (eqb-false n 1 q))
 
   balanced-plain : Balanced (struck ns) (struck ms) → Balance (plain ns) (plain ms)
   unfolding other
@@ -107,17 +106,7 @@ module _ (ns ms : List ℕ) where
       go true q =
           subst (λ u. occurs u (ends (plain ns)) + occurs u (spreads (plain ms)) ≡ occurs u (ends (plain ms)) + occurs u (spreads (plain ns)))
           (sym (eqb-true n 1 q)) at-one
-      go false q =
-          let not-one : n ≡ 1 → ⊥ = eqb-false n 1 q in
-          omega (
-            arith,
-            b n,
-            plain-counts n,
-            occurs-ones n (length ns) (λ d. not-one (sym d)),
-            occurs-ones n (length ms) (λ d. not-one (sym d)),
-            struck-other n ns not-one,
-            struck-other n ms not-one,
-          )
+      go false q = omega (arith, b n, at-other n (eqb-false n 1 q))
 
 -- coefficients are the kernel of these boxes, so they agree exactly when the counts do
 plain-kernel : (ns : List ℕ) (k : ℕ) → boxes (plain ns) (at (kernel [])) k ≡ at (kernel ns) k
