@@ -67,13 +67,13 @@ module _ (a b : Filter) (known : AcceptedRecipe (recipe a)) (other-known : Accep
   counts-agree s p shown other-shown =
       record {
         sides = λ i. record {
-          width = counts-width (recipe a) (recipe b) a-pos b-pos (s .rows) (s .columns) (p .width) i;
-          height = counts-height (recipe a) (recipe b) a-pos b-pos (s .rows) (s .columns) (p .height) i;
+          width = counts-width (recipe a) (recipe b) (s .rows) (s .columns) (p .width) i;
+          height = counts-height (recipe a) (recipe b) (s .rows) (s .columns) (p .height) i;
         };
-        weights = counts-gain (recipe a) (recipe b) a-pos b-pos (s .rows) (s .columns);
+        weights = counts-gain (recipe a) (recipe b) (s .rows) (s .columns);
         rows = λ m n j x y one other.
             yields-exactly a p shown j m .only x one
-            ∙ counts-row (recipe a) (recipe b) a-pos b-pos (s .rows) (s .columns) p j
+            ∙ counts-row (recipe a) (recipe b) (s .rows) (s .columns) a-pos b-pos p j
             ∙ sym (yields-exactly b p other-shown j n .only y other);
       }
 

@@ -1,4 +1,4 @@
--- The comparing call: its number, what an accepted recipe holds, and its answer.
+-- The comparing call: its number, how long the lists of accepted recipes are, and its answer.
 -- Assumes nothing.
 use mathlib.Core.Path.{_≡_, sym, ap, ap₂, _∙_}
 use mathlib.Core.Bool.{Bool, _&&_}
@@ -20,7 +20,7 @@ module _ (a b : Recipe) where
   unfolding compareChecks
   by-second n e z = sym (first-rest (recipeChecks a) (recipeChecks b) (recipe-numbered a) (sym e ∙ z))
 
-  pub both-accepted : first (compareChecks a b) ≡ 0 → (first (recipeChecks a) ≡ 0) × (first (recipeChecks b) ≡ 0)
+  both-accepted : first (compareChecks a b) ≡ 0 → (first (recipeChecks a) ≡ 0) × (first (recipeChecks b) ≡ 0)
   unfolding compareChecks
   both-accepted e = none-both (recipeChecks a) (recipeChecks b) (recipe-numbered a) e
 

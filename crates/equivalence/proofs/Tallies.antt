@@ -156,7 +156,7 @@ module _ (a b : List ℕ) where
 
 -- ---- what the comparison says of the lists
 
--- a width that is no byte occurs in neither list
+-- a width that is no byte does not occur in a list of bytes
 no-byte : (n : ℕ) → 256 ≤ n → (ks : List ℕ) → everywhere byte ks ≡ true → occurs n (struck ks) ≡ 0
 no-byte n h ks e =
     struck-other n ks (λ q. omega arith)

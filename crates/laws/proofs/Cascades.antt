@@ -4,13 +4,13 @@
 use mathlib.Core.Path.{_≡_, refl, sym, ap, _∙_}
 use mathlib.Core.List.{List, [], _∷_}
 use Prim.Native.Nat.{ℕ, zero, suc, _+_, _-_, _*_, _≤_, _<_}
-use native.Mathlib.Nat.{le-refl, le-trans, mul-zero, zero-mul, one-mul, mul-one, suc-mul, zero-add}
+use native.Mathlib.Nat.{le-refl, le-trans, mul-zero, zero-mul, one-mul, mul-one, suc-mul, zero-add, add-comm}
 use native.Mathlib.Decide.{decLe}
 use native.Mathlib.Omega.{arith}
 use lib.ListN.{List·getD-eq-default}
 use Rattle.spec.specs.Words.{sum, product}
 use Rattle.spec.specs.Recipe.{kernel, order}
-use Rattle.laws.proofs.Sums.{sum-agree, sum-zero, sum-first, sum-split}
+use Rattle.laws.proofs.Sums.{sum-agree, sum-zero, sum-first, sum-split, sum-swap}
 use Rattle.laws.proofs.Lists.{first-pos, rest-pos}
 use Rattle.laws.proofs.Sequences.{behind, boxed, behind-zero, behind-within, behind-before, behind-agree}
 use Rattle.laws.proofs.Convolution.{conv, ones, conv-agree, conv-comm, conv-assoc, conv-wide, boxed-conv}
@@ -81,6 +81,24 @@ behind-times c f b k =
           let g : k < b = omega arith in
           behind-before (λ j. c * f j) b k g ∙ sym (ap (λ x. c * x) (behind-before f b k g) ∙ mul-zero c)
     ]
+
+-- a box after a box
+pub spread-twice : (s t n m : ℕ) (f : ℕ → ℕ) (k : ℕ) → spread s n (spread t m f) k ≡ sum n (λ a. sum m (λ b. behind f (b * t + a * s) k))
+unfolding spread
+spread-twice s t n m f k =
+    sum-agree (λ a. behind (λ j. sum m (λ b. behind f (b * t) j)) (a * s) k) (λ a. sum m (λ b. behind f (b * t + a * s) k)) n
+    (λ a h.
+    behind-sum m (λ b. behind f (b * t)) (a * s) k
+    ∙ sum-agree (λ b. behind (behind f (b * t)) (a * s) k) (λ b. behind f (b * t + a * s) k) m (λ b l. behind-behind f (b * t) (a * s) k))
+
+-- boxes may be taken in either order, whatever their spreads
+pub spread-comm : (s t n m : ℕ) (f : ℕ → ℕ) (k : ℕ) → spread s n (spread t m f) k ≡ spread t m (spread s n f) k
+spread-comm s t n m f k =
+    spread-twice s t n m f k
+    ∙ sum-swap (λ a b. behind f (b * t + a * s) k) n m
+    ∙ sum-agree (λ b. sum n (λ a. behind f (b * t + a * s) k)) (λ b. sum n (λ a. behind f (a * s + b * t) k)) m
+    (λ b h. sum-agree (λ a. behind f (b * t + a * s) k) (λ a. behind f (a * s + b * t) k) n (λ a l. ap (λ c. behind f c k) (add-comm (b * t) (a * s))))
+    ∙ sym (spread-twice t s m n f k)
 
 -- the running sum of document 01: y (k) + v (k - n s) = y (k - s) + v (k)
 pub slide : (s n : ℕ) (f : ℕ → ℕ) (k : ℕ) → spread s n f k + behind f (n * s) k ≡ behind (spread s n f) s k + f k

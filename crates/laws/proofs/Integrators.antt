@@ -6,16 +6,16 @@ use mathlib.Core.Path.{_≡_, refl, sym, ap, ap₂, _∙_}
 use mathlib.Core.Bool.{cond}
 use mathlib.Core.List.{List, [], _∷_, _++_, List·Permᴰ, List·Permᴰ·nil, List·Permᴰ·cons, List·Permᴰ·swap, List·Permᴰ·trans}
 use Prim.Native.Nat.{ℕ, zero, suc, _+_, _-_, _*_, _≤_, _<_}
-use native.Mathlib.Nat.{le-refl, le-trans, le-of-eq, mul-assoc, add-comm, add-mul, suc-mul, zero-mul, le-mul-of-pos-right}
+use native.Mathlib.Nat.{le-refl, le-trans, le-of-eq, mul-assoc, add-mul, le-mul-of-pos-right}
 use native.Mathlib.Decide.{decLt}
 use native.Mathlib.Omega.{arith}
 use lib.Dec.{ltb}
 use borrow.Author.Tests.{lt-ltb, le-ltb}
 use Rattle.spec.specs.Words.{sum, product, keep, occurs}
-use Rattle.laws.proofs.Sums.{sum-agree, sum-zero, sum-split, sum-swap}
+use Rattle.laws.proofs.Sums.{sum-agree, sum-zero, sum-split, sum-rows}
 use Rattle.laws.proofs.Lists.{first-pos, rest-pos}
 use Rattle.laws.proofs.Sequences.{behind, behind-within, behind-before, behind-agree}
-use Rattle.laws.proofs.Cascades.{spread, spread-agree, slide, behind-behind, behind-sum}
+use Rattle.laws.proofs.Cascades.{spread, spread-agree, spread-twice, spread-comm, slide}
 use Rattle.laws.proofs.Counts.{Balanced, balanced-order, product-order, occurs-none, occurs-here, occurs-other, occurs-keep, keep-pos}
 
 -- the integrator with a spread s: f k + f (k - s) + .. , as far back as the sequence goes
@@ -26,24 +26,6 @@ integrated s f k = spread s (suc k) f k
 unfoldable pub integrators : List ℕ → (ℕ → ℕ) → ℕ → ℕ
 integrators [] f = f
 integrators (u ∷ us) f = integrated u (integrators us f)
-
--- a box after a box
-spread-twice : (s t n m : ℕ) (f : ℕ → ℕ) (k : ℕ) → spread s n (spread t m f) k ≡ sum n (λ a. sum m (λ b. behind f (b * t + a * s) k))
-unfolding spread
-spread-twice s t n m f k =
-    sum-agree (λ a. behind (λ j. sum m (λ b. behind f (b * t) j)) (a * s) k) (λ a. sum m (λ b. behind f (b * t + a * s) k)) n
-    (λ a h.
-    behind-sum m (λ b. behind f (b * t)) (a * s) k
-    ∙ sum-agree (λ b. behind (behind f (b * t)) (a * s) k) (λ b. behind f (b * t + a * s) k) m (λ b l. behind-behind f (b * t) (a * s) k))
-
--- boxes may be taken in either order, whatever their spreads
-pub spread-comm : (s t n m : ℕ) (f : ℕ → ℕ) (k : ℕ) → spread s n (spread t m f) k ≡ spread t m (spread s n f) k
-spread-comm s t n m f k =
-    spread-twice s t n m f k
-    ∙ sum-swap (λ a b. behind f (b * t + a * s) k) n m
-    ∙ sum-agree (λ b. sum n (λ a. behind f (b * t + a * s) k)) (λ b. sum n (λ a. behind f (a * s + b * t) k)) m
-    (λ b h. sum-agree (λ a. behind f (b * t + a * s) k) (λ a. behind f (a * s + b * t) k) n (λ a l. ap (λ c. behind f c k) (add-comm (b * t) (a * s))))
-    ∙ sym (spread-twice t s m n f k)
 
 -- a box that reaches back past the start is the integrator
 spread-whole : (s m : ℕ) (f : ℕ → ℕ) (k : ℕ) → 0 < s → k < m → spread s m f k ≡ integrated s f k
@@ -79,12 +61,6 @@ integrated-comm s t f k h g =
     spread-agree s (suc k) (integrated t f) (spread t (suc k) f) k (λ j l. sym (spread-whole t (suc k) f j g (omega arith)))
     ∙ spread-comm s t (suc k) (suc k) f k
     ∙ spread-agree t (suc k) (spread s (suc k) f) (integrated s f) k (λ j l. spread-whole s (suc k) f j h (omega arith))
-
--- m rows of n terms, as one sum
-sum-rows : (g : ℕ → ℕ) (m n : ℕ) → sum (m * n) g ≡ sum m (λ a. sum n (λ b. g (a * n + b)))
-unfolding sum
-sum-rows g zero n = ap (λ k. sum k g) (zero-mul n)
-sum-rows g (suc m) n = ap (λ k. sum k g) (suc-mul m n) ∙ sum-split g (m * n) n ∙ ap (λ t. t + sum n (λ b. g (m * n + b))) (sum-rows g m n)
 
 -- a box, and the integrator that undoes it
 pub integrated-box : (s n : ℕ) (f : ℕ → ℕ) (k : ℕ) → 0 < s → 0 < n → integrated (n * s) (spread s n f) k ≡ integrated s f k

@@ -202,7 +202,7 @@ kernels-within ns ms p q x e k =
 
 module _ (a b : Recipe) where
   -- Where the counts agree, so do the grown sides, the weight and every exact sum of every picture.
-  module _ (p : 0 < gain a) (q : 0 < gain b) (e : Balanced (struck (a .rows)) (struck (b .rows))) (d : Balanced (struck (a .columns)) (struck (b .columns))) where
+  module _ (e : Balanced (struck (a .rows)) (struck (b .rows))) (d : Balanced (struck (a .columns)) (struck (b .columns))) where
     pub counts-gain : gain a ≡ gain b
     unfolding gain
     counts-gain = ap₂ _*_ (counts-product (a .rows) (b .rows) e) (counts-product (a .columns) (b .columns) d)
@@ -215,9 +215,9 @@ module _ (a b : Recipe) where
     unfolding fullHeight
     counts-height h = ap (λ n. h + n) (counts-order (a .columns) (b .columns) d)
 
-    counts-exact : (x : Picture) (i j : ℕ) → exact a x i j ≡ exact b x i j
+    counts-exact : 0 < gain a → 0 < gain b → (x : Picture) (i j : ℕ) → exact a x i j ≡ exact b x i j
     unfolding exact at
-    counts-exact x i j =
+    counts-exact p q x i j =
         let R = at (kernel (a .rows)) in
         let C = at (kernel (a .columns)) in
         ap₂ (λ m n. sum (suc m) (λ u. sum (suc n) (λ v. R u * C v * pixelBack x i u j v)))
@@ -231,11 +231,11 @@ module _ (a b : Recipe) where
         ap₂ (λ y z. y * z * pixelBack x i u j v) (counts-kernels (a .rows) (b .rows) (rows-pos a p) (rows-pos b q) e u)
         (counts-kernels (a .columns) (b .columns) (columns-pos a p) (columns-pos b q) d v)))
 
-    pub counts-row : (x : Picture) (j : ℕ) → fullRow a x j ≡ fullRow b x j
+    pub counts-row : 0 < gain a → 0 < gain b → (x : Picture) (j : ℕ) → fullRow a x j ≡ fullRow b x j
     unfolding fullRow
-    counts-row x j =
+    counts-row p q x j =
         ap (λ n. tab n (λ i. exact a x i j)) (counts-width (x .width))
-        ∙ tab-agree (fullWidth b (x .width)) (λ i. exact a x i j) (λ i. exact b x i j) (λ i h. counts-exact x i j)
+        ∙ tab-agree (fullWidth b (x .width)) (λ i. exact a x i j) (λ i. exact b x i j) (λ i h. counts-exact p q x i j)
 
   -- Where the grown sides and the exact sums of the single pixel agree, so do the counts.
   module _ (p : 0 < gain a) (q : 0 < gain b) (x : order (a .rows) ≡ order (b .rows)) (y : order (a .columns) ≡ order (b .columns))

@@ -3,7 +3,7 @@
 use mathlib.Core.Path.{_≡_, refl, sym, ap, ap₂, _∙_}
 use mathlib.Core.Bool.{cond}
 use Prim.Native.Nat.{ℕ, zero, suc, _+_, _-_, _*_, _≤_, _<_, min}
-use native.Mathlib.Nat.{le-refl, le-step, add-le-add, mul-add, mul-zero, zero-add, add-zero, zero-min}
+use native.Mathlib.Nat.{le-refl, le-step, add-le-add, mul-add, mul-zero, zero-add, add-zero, zero-mul, suc-mul, zero-min}
 use native.Mathlib.Decide.{decLt}
 use native.Mathlib.Omega.{arith}
 use lib.Dec.{ltb}
@@ -81,3 +81,9 @@ sum-swap f zero n = sym (sum-zero n)
 sum-swap f (suc m) n =
     ap (λ s. s + sum n (λ j. f m j)) (sum-swap f m n)
     ∙ sym (sum-add (λ j. sum m (λ i. f i j)) (λ j. f m j) n)
+
+-- m rows of n terms, as one sum
+pub sum-rows : (g : ℕ → ℕ) (m n : ℕ) → sum (m * n) g ≡ sum m (λ a. sum n (λ b. g (a * n + b)))
+unfolding sum
+sum-rows g zero n = ap (λ k. sum k g) (zero-mul n)
+sum-rows g (suc m) n = ap (λ k. sum k g) (suc-mul m n) ∙ sum-split g (m * n) n ∙ ap (λ t. t + sum n (λ b. g (m * n + b))) (sum-rows g m n)
