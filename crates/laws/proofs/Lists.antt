@@ -1,7 +1,7 @@
 -- Lists made by a rule, and totals and products over the front of a list.
 -- Assumes nothing.
 use mathlib.Core.Path.{_≡_, refl, sym, ap, ap₂, _∙_}
-use mathlib.Core.Bool.{_||_}
+use mathlib.Core.Bool.{Bool, true, false, _||_, true≢false, or-assoc, or-false}
 use mathlib.Core.List.{List, [], _∷_, _++_}
 use Prim.Native.Nat.{ℕ, zero, suc, _+_, _*_, _≤_, _<_, suc-le-suc}
 use native.Mathlib.Nat.{zero-add, le-of-suc-le-suc, not-suc-le-zero, zero-lt-suc, mul-zero, mul-one, mul-add, mul-comm, mul-assoc, le-refl, le-trans, le-of-eq, le-mul-of-pos-right}
@@ -93,6 +93,33 @@ unfolding product
 product-more xs i h =
     rw (add-one i, take-suc xs i 0 h)
     (product-append (take i xs) (getD xs i 0 ∷ []) ∙ ap (λ p. product (take i xs) * p) (mul-one (getD xs i 0)))
+
+-- where a test holds: in one entry more of a list, and nowhere
+module _ {A : Type 0} (p : A → Bool) where
+  somewhere-append : (xs ys : List A) → somewhere p (xs ++ ys) ≡ (somewhere p xs || somewhere p ys)
+  unfolding somewhere
+  somewhere-append [] ys = refl
+  somewhere-append (x ∷ xs) ys = ap (λ b. p x || b) (somewhere-append xs ys) ∙ sym (or-assoc (p x) (somewhere p xs) (somewhere p ys))
+
+  pub somewhere-more : (d : A) (xs : List A) (i : ℕ) → i < length xs → somewhere p (take (i + 1) xs) ≡ (somewhere p (take i xs) || p (getD xs i d))
+  unfolding somewhere
+  somewhere-more d xs i h =
+      rw (add-one i, take-suc xs i d h)
+      (somewhere-append (take i xs) (getD xs i d ∷ []) ∙ ap (λ b. somewhere p (take i xs) || b) (or-false (p (getD xs i d))))
+
+  pub nowhere : (d : A) (xs : List A) → somewhere p xs ≡ false → (i : ℕ) → i < length xs → p (getD xs i d) ≡ false
+  unfolding somewhere
+  nowhere d [] e i h = absurd (not-suc-le-zero h)
+  nowhere d (x ∷ xs) e zero h = go (p x) e
+    where
+      go : (b : Bool) → (b || somewhere p xs) ≡ false → b ≡ false
+      go true q = q
+      go false q = refl
+  nowhere d (x ∷ xs) e (suc i) h = nowhere d xs (go (p x) e) i (le-of-suc-le-suc h)
+    where
+      go : (b : Bool) → (b || somewhere p xs) ≡ false → somewhere p xs ≡ false
+      go true q = absurd (true≢false q)
+      go false q = q
 
 -- a product is 0 exactly where an entry is
 pub product-zero : (xs : List ℕ) → somewhere (λ n. eqb n 0) xs ≡ eqb (product xs) 0

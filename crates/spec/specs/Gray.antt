@@ -5,6 +5,7 @@ use Prim.Native.Nat.{ℕ, _+_, _-_, _*_, _/_}
 use lib.Dec.{leb}
 use lib.Ieee.{Float, binary64, div, ofInt}
 use lib.IntN.{ℤ, pos, negℤ}
+use lib.ListN.{length, getD}
 use Rattle.spec.specs.Words.{tab, total}
 use Rattle.spec.specs.Recipe.{Recipe, order, gain}
 use Rattle.spec.specs.Picture.{Picture, exact}
@@ -12,6 +13,10 @@ use Rattle.spec.specs.Picture.{Picture, exact}
 -- Rounding: grey = (sum + weight / 2) / weight, both divisions downwards.
 unfoldable pub gray : ℕ → ℕ → ℕ
 gray weight s = (s + weight / 2) / weight
+
+-- the greys of a row of sums, as many
+unfoldable pub grays : ℕ → List ℕ → List ℕ
+grays weight sums = tab (length sums) (λ k. gray weight (getD sums k 0))
 
 -- f at each picture place (i, j), row by row
 unfoldable pub places {ℓ} : {A : Type ℓ} → Picture → (ℕ → ℕ → A) → List A

@@ -1,0 +1,5 @@
+// Document 01's greys: rounding, the same-size blur, the difference of two recipes, and the reading at
+// one place.
+mod rounding;
+
+pub use rounding::round;
