@@ -1,2 +1,3 @@
 pub mod Dividing
 pub mod Greys
+pub mod Driving

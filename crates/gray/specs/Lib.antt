@@ -1,2 +1,3 @@
 pub mod Rounded
 pub mod Division
+pub mod Streaming

@@ -1,5 +1,6 @@
 // Document 01's greys: rounding, the same-size blur, the difference of two recipes, and the reading at
 // one place.
 mod rounding;
+mod rows;
 
 pub use rounding::round;

@@ -8,8 +8,8 @@ use native.Mathlib.Nat.{zero-add, le-of-suc-le-suc, not-suc-le-zero, zero-lt-suc
 use native.Mathlib.Numerals.{add-one}
 use native.Mathlib.Omega.{arith}
 use lib.Dec.{eqb}
-use lib.ListN.{length, getD, take, drop, replicate, List·getD-eq-default}
-use lib.Seq.{ext-getD, getD-take, length-take-le, take-suc}
+use lib.ListN.{length, getD, take, drop, replicate, length-drop, List·getD-eq-default}
+use lib.Seq.{ext-getD, getD-take, getD-drop, length-take-le, take-suc}
 use Rattle.laws.proofs.Numbers.{zero-factor}
 use Rattle.spec.specs.Words.{tab, part, total, product, somewhere}
 
@@ -35,6 +35,12 @@ module _ {A : Type 0} where
   tab-agree zero f g e = refl
   tab-agree (suc n) f g e = ap₂ _∷_ (e 0 (zero-lt-suc n)) (tab-agree n (λ k. f (suc k)) (λ k. g (suc k)) (λ k h. e (suc k) (suc-le-suc h)))
 
+  -- one entry more
+  pub tab-more : (n : ℕ) (f : ℕ → A) → tab (suc n) f ≡ tab n f ++ f n ∷ []
+  unfolding tab
+  tab-more zero f = refl
+  tab-more (suc n) f = ap (λ l. f 0 ∷ l) (tab-more n (λ k. f (suc k)))
+
   -- a list is made by the rule that reads it
   pub tab-getD : (d : A) (xs : List A) → tab (length xs) (λ k. getD xs k d) ≡ xs
   unfolding tab
@@ -47,15 +53,20 @@ module _ {A : Type 0} where
   tab-replicate zero x = refl
   tab-replicate (suc n) x = ap (λ l. x ∷ l) (tab-replicate n x)
 
--- the first entries of a list
-pub part-take : (n : ℕ) (xs : List ℕ) → n ≤ length xs → part 0 n xs ≡ take n xs
+-- entries of a list from a place on
+pub part-within : (from n : ℕ) (xs : List ℕ) → from + n ≤ length xs → part from n xs ≡ take n (drop from xs)
 unfolding part
-part-take n xs h =
-    ext-getD 0 (tab n (λ k. getD xs (0 + k) 0)) (take n xs)
-    (length-tab n (λ k. getD xs (0 + k) 0) ∙ sym (length-take-le n xs h))
+part-within from n xs h =
+    let size : length (take n (drop from xs)) ≡ n = length-take-le n (drop from xs) (omega (arith, length-drop from xs)) in
+    ext-getD 0 (tab n (λ k. getD xs (from + k) 0)) (take n (drop from xs))
+    (length-tab n (λ k. getD xs (from + k) 0) ∙ sym size)
     (λ k l.
     let m : k < n = rw length-tab at l in
-    getD-tab n (λ i. getD xs (0 + i) 0) k 0 m ∙ ap (λ i. getD xs i 0) (zero-add k) ∙ sym (getD-take n xs k 0 m))
+    getD-tab n (λ i. getD xs (from + i) 0) k 0 m ∙ sym (getD-take n (drop from xs) k 0 m ∙ getD-drop from xs k 0))
+
+-- the first entries of a list
+pub part-take : (n : ℕ) (xs : List ℕ) → n ≤ length xs → part 0 n xs ≡ take n xs
+part-take n xs h = part-within 0 n xs (omega arith)
 
 pub length-part : (from n : ℕ) (xs : List ℕ) → length (part from n xs) ≡ n
 unfolding part

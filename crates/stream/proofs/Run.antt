@@ -69,6 +69,11 @@ module _ (c : Call) (s : State) (cells : List ℕ) where
       go zero z = ap (λ (a : Called). a .number) (is-yielded z) ∙ sym z
       go (suc k) z = ap (λ (a : Called). a .number) (refused (suc k) z (λ q. omega arith))
 
+  -- an accepted call counts one row more
+  pub next-state : answerOf c s cells .number ≡ 0 → answerOf c s cells .state ≡ next s
+  unfolding yields steps
+  next-state e = ap (λ (a : Called). a .state) (is-yielded (sym number-is ∙ e))
+
   module _ (cs : List Call) where
     run-accepted : first (checks c s cells) ≡ 0
         → run (c ∷ cs) s cells ≡ record { call = c; out = yields c s cells .out } ∷ run cs (yields c s cells .state) (yields c s cells .cells)
@@ -379,6 +384,39 @@ module _ (f : Filter) (p : Picture) where
     whole-length =
         length-append (tab (p .height) (λ j. aRow (pictureRow p j) (outs j))) (tab (order (r .columns)) (λ k. aDrain (outs (p .height + k))))
         ∙ ap₂ _+_ (length-tab (p .height) (λ j. aRow (pictureRow p j) (outs j))) (length-tab (order (r .columns)) (λ k. aDrain (outs (p .height + k))))
+
+-- ---- a list of calls, and others after it
+
+pub carried-append : (cs ds : List Call) (s : State) (cells : List ℕ)
+    → carried (cs ++ ds) s cells ≡ carried ds (carried cs s cells .state) (carried cs s cells .cells)
+unfolding carried
+carried-append [] ds s cells = refl
+carried-append (c ∷ cs) ds s cells = carried-append cs ds (answerOf c s cells .state) (answerOf c s cells .cells)
+
+pub run-append : (cs ds : List Call) (s : State) (cells : List ℕ)
+    → run (cs ++ ds) s cells ≡ run cs s cells ++ run ds (carried cs s cells .state) (carried cs s cells .cells)
+unfolding run carried either
+run-append [] ds s cells = refl
+run-append (c ∷ cs) ds s cells =
+    go (a .number) (run cs (a .state) (a .cells)) (run ds (carried cs (a .state) (a .cells) .state) (carried cs (a .state) (a .cells) .cells)) (run-append cs ds (a .state) (a .cells))
+  where
+    a : Called
+    a = answerOf c s cells
+
+    go : (n : ℕ) {xs : List Yielded} (ys zs : List Yielded) → xs ≡ ys ++ zs
+        → either n (record { call = c; out = a .out } ∷ xs) xs ≡ either n (record { call = c; out = a .out } ∷ ys) ys ++ zs
+    go zero ys zs e = ap (λ l. record { call = c; out = a .out } ∷ l) e
+    go (suc n) ys zs e = e
+
+pub rows-append : (ys zs : List Yielded) → rows (ys ++ zs) ≡ rows ys ++ rows zs
+unfolding rows
+rows-append [] zs = refl
+rows-append (y ∷ ys) zs = ap (λ l. rowOf (y .call) ++ l) (rows-append ys zs) ∙ sym (append-assoc (rowOf (y .call)) (rows ys) (rows zs))
+
+pub outputs-append : (ys zs : List Yielded) → outputs (ys ++ zs) ≡ outputs ys ++ outputs zs
+unfolding outputs
+outputs-append [] zs = refl
+outputs-append (y ∷ ys) zs = ap (λ l. y .out ∷ l) (outputs-append ys zs)
 
 -- ---- the claim
 
