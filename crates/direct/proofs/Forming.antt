@@ -11,7 +11,7 @@ use lib.ListN.{length}
 use borrow.Author.Tests.{ne-eqb, le-ltb}
 use Rattle.spec.specs.Words.{product, somewhere, total}
 use Rattle.spec.specs.Recipe.{Recipe, kernel, order, gain}
-use Rattle.spec.specs.Picture.{Picture, fullWidth, fullHeight, full}
+use Rattle.spec.specs.Picture.{Picture, exact, fullWidth, fullHeight, full}
 use Rattle.spec.specs.Refusals.{first, check, alone, tooLong, zeroWidth, tooFar, tooHeavy, otherPixels, otherOutput, fullSize, recipeChecks, sizeChecks, pictureChecks, kernelChecks, directChecks}
 use Rattle.laws.proofs.Lists.{product-zero}
 use Rattle.laws.proofs.Kernels.{kernel-sum, length-kernel}
@@ -19,8 +19,8 @@ use Rattle.laws.proofs.Exact.{rows-pos, columns-pos}
 use Rattle.laws.proofs.Refusals.{Accepted, AcceptedPicture, as-stated, not-stated, picture-sides, picture-pixels, picture-rest, first-then, first-none, none-both, neither, recipe-numbered, picture-numbered, is-accepted-picture, same-length-so, lent-refused, lent-accepted}
 use Rattle.filter.specs.Filled.{Filled}
 use Rattle.direct.specs.Formed.{checks, Formed}
-use Rattle.direct.specs.Windows.{windows, weight, Ready}
-use Rattle.direct.proofs.Weighing.{windows-full}
+use Rattle.direct.specs.Windows.{window, windows, weight, Ready}
+use Rattle.direct.proofs.Weighing.{window-exact, windows-full}
 
 module _ (r : Recipe) (p : Picture) (rows columns out : ℕ) where
   abbrev number : ℕ
@@ -116,21 +116,21 @@ light-alone ns l =
     ) refl
 
 -- the coefficients of such a list are filled in
-pub filled-whole : (ns old new : List ℕ) (number : ℕ) → Light ns → length old ≡ order ns + 1 → Filled ns old number new → new ≡ kernel ns
+filled-whole : (ns old new : List ℕ) (number : ℕ) → Light ns → length old ≡ order ns + 1 → Filled ns old number new → new ≡ kernel ns
 unfolding kernelChecks otherOutput otherPixels
 filled-whole ns old new number l s f =
     let none = first-then (recipeChecks (alone ns)) _ 7 (recipe-numbered (alone ns)) (light-alone ns l) in
     f .slice ∙ lent-accepted _ (kernel ns) old (none ∙ ap (λ b. cond b 7 0) (as-stated (length old) (order ns + 1) s))
 
 -- both lists of an accepted recipe are
-module _ (r : Recipe) (p : Picture) (k : Accepted r) where
+module _ (r : Recipe) (k : Accepted r) where
   across-pos : 0 < product (r .rows)
   across-pos = rows-pos r (k .notZero)
 
   down-pos : 0 < product (r .columns)
   down-pos = columns-pos r (k .notZero)
 
-  pub rows-light : Light (r .rows)
+  rows-light : Light (r .rows)
   unfolding gain
   rows-light =
       record {
@@ -140,7 +140,7 @@ module _ (r : Recipe) (p : Picture) (k : Accepted r) where
         weight = le-trans (le-mul-of-pos-right (product (r .rows)) down-pos) (k .light);
       }
 
-  pub columns-light : Light (r .columns)
+  columns-light : Light (r .columns)
   unfolding gain
   columns-light =
       record {
@@ -152,13 +152,19 @@ module _ (r : Recipe) (p : Picture) (k : Accepted r) where
             (le-trans (le-of-eq (mul-comm (product (r .columns)) (product (r .rows)))) (k .light));
       }
 
--- Slices that hold R and C, and what is formed from them.
-module _ (r : Recipe) (p : Picture) (rows columns out : ℕ) (k : Called r p rows columns out) (rs cs : List ℕ) (a : rs ≡ kernel (r .rows)) (b : cs ≡ kernel (r .columns)) where
-  row-length : length rs ≡ order (r .rows) + 1
-  row-length = ap length a ∙ length-kernel (r .rows) (across-pos r p (k .picture .recipe))
+  -- and the coefficients of both are filled in
+  pub kernels-filled : (rows columns rs cs : List ℕ) (m n : ℕ) → length rows ≡ order (r .rows) + 1 → length columns ≡ order (r .columns) + 1
+      → Filled (r .rows) rows m rs → Filled (r .columns) columns n cs → (rs ≡ kernel (r .rows)) × (cs ≡ kernel (r .columns))
+  kernels-filled rows columns rs cs m n s t f g =
+      (filled-whole (r .rows) rows rs m rows-light s f, filled-whole (r .columns) columns cs n columns-light t g)
 
-  column-length : length cs ≡ order (r .columns) + 1
-  column-length = ap length b ∙ length-kernel (r .columns) (down-pos r p (k .picture .recipe))
+-- Slices that hold R and C for an accepted picture, and what is formed from them.
+module _ (r : Recipe) (p : Picture) (k : AcceptedPicture r p) (rs cs : List ℕ) (a : rs ≡ kernel (r .rows)) (b : cs ≡ kernel (r .columns)) where
+  pub row-length : length rs ≡ order (r .rows) + 1
+  row-length = ap length a ∙ length-kernel (r .rows) (across-pos r (k .recipe))
+
+  pub column-length : length cs ≡ order (r .columns) + 1
+  column-length = ap length b ∙ length-kernel (r .columns) (down-pos r (k .recipe))
 
   row-weight : weight rs ≤ product (r .rows)
   unfolding weight
@@ -168,29 +174,31 @@ module _ (r : Recipe) (p : Picture) (rows columns out : ℕ) (k : Called r p row
   unfolding weight
   column-weight = rw b (kernel-sum (r .columns) (length (kernel (r .columns))))
 
-  pub called-ready : Ready rs cs p
+  pub held-ready : Ready rs cs p
   unfolding gain
-  called-ready =
-      let q = k .picture in
+  held-ready =
       record {
-        size = q .size;
-        wide = q .sides .width;
-        high = q .sides .height;
-        rows = (omega (arith, row-length), omega (arith, row-length, q .recipe .rowReach));
-        columns = (omega (arith, column-length), omega (arith, column-length, q .recipe .columnReach));
-        rowWeight = le-trans row-weight (rows-light r p (q .recipe) .weight);
-        light = le-trans (mul-le-mul row-weight column-weight) (q .recipe .light);
+        size = k .size;
+        wide = k .sides .width;
+        high = k .sides .height;
+        rows = (omega (arith, row-length), omega (arith, row-length, k .recipe .rowReach));
+        columns = (omega (arith, column-length), omega (arith, column-length, k .recipe .columnReach));
+        rowWeight = le-trans row-weight (rows-light r (k .recipe) .weight);
+        light = le-trans (mul-le-mul row-weight column-weight) (k .recipe .light);
       }
 
-  pub called-size : out ≡ (p .height + length cs - 1) * (p .width + length rs - 1)
+  pub held-size : (out : ℕ) → out ≡ fullSize r p → out ≡ (p .height + length cs - 1) * (p .width + length rs - 1)
   unfolding fullSize fullWidth fullHeight
-  called-size =
+  held-size out e =
       let w : p .width + length rs - 1 ≡ p .width + order (r .rows) = omega (arith, row-length) in
       let h : p .height + length cs - 1 ≡ p .height + order (r .columns) = omega (arith, column-length) in
-      k .outSize ∙ mul-comm (p .width + order (r .rows)) (p .height + order (r .columns)) ∙ sym (ap₂ _*_ h w)
+      e ∙ mul-comm (p .width + order (r .rows)) (p .height + order (r .columns)) ∙ sym (ap₂ _*_ h w)
 
-  pub called-full : (sums : List ℕ) → sums ≡ windows rs cs p → sums ≡ full r p
-  called-full sums e = e ∙ ap₂ (λ x y. windows x y p) a b ∙ windows-full r p (k .picture .recipe .notZero)
+  pub held-full : (sums : List ℕ) → sums ≡ windows rs cs p → sums ≡ full r p
+  held-full sums e = e ∙ ap₂ (λ x y. windows x y p) a b ∙ windows-full r p (k .recipe .notZero)
+
+  pub held-exact : (sum i j : ℕ) → sum ≡ window rs cs p i j → sum ≡ exact r p i j
+  held-exact sum i j e = e ∙ ap₂ (λ x y. window x y p i j) a b ∙ window-exact r p (k .recipe .notZero) i j
 
 -- on a refusal nothing is written; otherwise all is
 module _ (r : Recipe) (p : Picture) (rows columns out : List ℕ) where

@@ -13,11 +13,12 @@ use Rattle.spec.specs.Words.{sum, tab}
 use Rattle.spec.specs.Recipe.{Recipe, kernel, order, gain}
 use Rattle.spec.specs.Picture.{Picture, exact, fullWidth, fullHeight, fullRow, full, picture}
 use Rattle.laws.proofs.Sums.{sum-agree, sum-zero, sum-split, sum-grows}
-use Rattle.laws.proofs.Lists.{length-tab, getD-tab, tab-agree}
+use Rattle.laws.proofs.Lists.{tab-agree}
 use Rattle.laws.proofs.Sequences.{behind, behind-within, behind-before, behind-agree}
 use Rattle.laws.proofs.Kernels.{at, length-kernel}
-use Rattle.laws.proofs.Exact.{pixel-right, pixel-below, pixel-inside, line, across, exact-down, rows-pos, columns-pos, length-rows, getD-rows}
-use Rattle.laws.proofs.Slices.{Mixed, mixed-part}
+use Rattle.laws.proofs.Exact.{pixel-right, pixel-below, pixel-inside, line, across, exact-down, rows-pos, columns-pos}
+use Rattle.laws.proofs.Rows.{length-rows, rows-more}
+use Rattle.laws.proofs.Slices.{Mixed}
 use Rattle.direct.specs.Windows.{through, window, windows, weight}
 
 -- terms from m on that are 0 do not count
@@ -152,10 +153,6 @@ module _ (rs cs : List ℕ) (p : Picture) where
   unfolding windows
   length-windows = length-rows W H (λ j i. window rs cs p i j)
 
-  getD-windows : (j i : ℕ) → j < H → i < W → getD (windows rs cs p) (j * W + i) 0 ≡ window rs cs p i j
-  unfolding windows
-  getD-windows j i h l = getD-rows W H (λ j i. window rs cs p i j) j i h l
-
   -- a row ends inside the output
   pub row-fits : (j from size : ℕ) → from ≡ j * W → j < H → size ≡ H * W → from + W ≤ size
   row-fits j from size e h s = omega (arith, suc-mul j W, mul-le-mul-right W h)
@@ -164,14 +161,9 @@ module _ (rs cs : List ℕ) (p : Picture) where
   pub row-more : (j from n : ℕ) {old l : List ℕ} (ys : List ℕ) → Mixed from (windows rs cs p) old l → from ≡ j * W → j < H → from + W ≤ length old
       → n ≡ W → ys ≡ tab n (λ i. window rs cs p i j)
       → Mixed (from + W) (windows rs cs p) old (take from l ++ (ys ++ drop (from + W - from) (drop from l)))
+  unfolding windows
   row-more j from n ys m e h fits s d =
-      let size : length ys ≡ W = ap length d ∙ length-tab n (λ i. window rs cs p i j) ∙ s in
-      mixed-part 0 from (from + W) ys m (omega arith) fits
-      (λ k g.
-      ap (λ l. getD l k 0) d
-      ∙ getD-tab n (λ i. window rs cs p i j) k 0 (omega arith)
-      ∙ sym (getD-windows j k h (omega arith))
-      ∙ ap (λ b. getD (windows rs cs p) (b + k) 0) (sym e))
+      rows-more W H (λ j i. window rs cs p i j) 0 j from ys m e h fits (d ∙ ap (λ k. tab k (λ i. window rs cs p i j)) s)
 
 -- with R and C they are all exact sums
 pub windows-full : (r : Recipe) (p : Picture) → 0 < gain r → windows (kernel (r .rows)) (kernel (r .columns)) p ≡ full r p

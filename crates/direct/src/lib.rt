@@ -1,7 +1,10 @@
 // Document 01's third method, direct: the coefficients of both lists are filled in, then every exact
-// sum is formed as it is defined.
+// sum is formed as it is defined; or only the one that the same-size blur takes at a picture place.
+mod points;
 mod sums;
 
+pub use points::Point;
+pub use points::point_sum;
 ghost use mathlib.Core.Path.{_≡_};
 ghost use Rattle.spec.specs.Recipe.{recipe};
 ghost use Rattle.spec.specs.Picture.{picture};

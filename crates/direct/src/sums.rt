@@ -45,7 +45,7 @@ fn across(line: &[u8], kernel: &[u64], i: usize) -> u64
 }
 
 // The sum over the rows of the window at column i, row j.
-fn down(
+pub(crate) fn down(
     pixels: &[u8],
     width: usize,
     height: usize,

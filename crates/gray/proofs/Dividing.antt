@@ -1,8 +1,7 @@
 -- Rounding: how large a grey is, that a shift divides by a weight with a single bit set, and that the nearest whole number is rounded alike.
 -- Assumes nothing.
 use mathlib.Core.Path.{_≡_, refl, sym, ap, _∙_}
-use mathlib.Core.Bool.{Bool, true, false, _||_, true≢false}
-use mathlib.Core.List.{List, [], _∷_}
+use mathlib.Core.Bool.{true}
 use Prim.Native.Nat.{ℕ, zero, suc, _+_, _*_, _/_, _%_, _^_, _≤_, _<_}
 use native.Mathlib.Nat.{div-lt-iff-lt-mul, div-div-eq-div-mul, pow-zero, pow-suc, le-of-suc-le-suc}
 use native.Mathlib.Omega.{arith}

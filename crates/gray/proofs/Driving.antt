@@ -1,21 +1,20 @@
 -- The one pass driven over a picture: by the theorem about the whole list of calls, each call yields the next grown row of exact sums.
 -- Assumes nothing.
 use mathlib.Core.Path.{_≡_, refl, sym, ap, ap₂, subst, _∙_}
-use mathlib.Core.Bool.{Bool, true, false, cond, _||_}
+use mathlib.Core.Bool.{false}
 use mathlib.Core.List.{List, [], _∷_, _++_, append-nil}
-use Prim.Native.Nat.{ℕ, zero, suc, _+_, _*_, _≤_, _<_, min}
+use Prim.Native.Nat.{ℕ, suc, _+_, _*_, _/_, _≤_, _<_, min}
 use native.Mathlib.Omega.{arith}
-use lib.Dec.{leb, ltb}
 use lib.ListN.{length, getD, length-append}
 use lib.Seq.{getD-append-add}
-use borrow.Author.Tests.{lt-ltb, le-ltb, lt-leb, le-leb}
+use borrow.Author.Tests.{le-ltb, lt-leb}
 use Rattle.spec.specs.declared.Filter.{Filter}
 use Rattle.spec.specs.Words.{tab}
-use Rattle.spec.specs.Recipe.{Recipe, recipe, order}
+use Rattle.spec.specs.Recipe.{recipe, order}
 use Rattle.spec.specs.Picture.{Picture, picture, fullWidth, fullHeight, fullRow}
 use Rattle.spec.specs.Refusals.{check, first, either, otherPixels, otherOutput, sizeChecks, startChecks}
-use Rattle.laws.proofs.Lists.{length-tab, getD-tab, length-part, tab-more}
-use Rattle.laws.proofs.Refusals.{as-stated, lent-accepted, none-both, size-numbered, is-sized}
+use Rattle.laws.proofs.Lists.{getD-tab, length-part, tab-more}
+use Rattle.laws.proofs.Refusals.{AcceptedPicture, as-stated, lent-accepted, none-both, size-numbered, is-sized}
 use Rattle.stream.specs.declared.calls.State.{State}
 use Rattle.stream.specs.declared.calls.Started.{Started}
 use Rattle.stream.specs.declared.calls.Stepped.{Stepped}
@@ -23,7 +22,7 @@ use Rattle.stream.specs.Calls.{Began, began, start, started, Called, called, ne
 use Rattle.stream.specs.Runs.{Call, aRow, aDrain, answerOf, Yielded, run, Carried, carried, rowOf, rows, outputs, pictureRow}
 use Rattle.stream.specs.OnePass.{Bytes, acceptedCalls, left}
 use Rattle.stream.proofs.Run.{one-pass, first-rows, next-state, carried-append, run-append, rows-append, outputs-append}
-use Rattle.gray.specs.Streaming.{Streamed, pictureOf, Due, Came}
+use Rattle.gray.specs.Streaming.{Streamed, Due, Came, Taken}
 
 -- as many outputs as accepted calls
 length-outputs : (ys : List Yielded) → length (outputs ys) ≡ length ys
@@ -191,3 +190,17 @@ module _ (f : Filter) (w h : ℕ) (pixels : List ℕ) (k : ℕ) (s : State) (cel
   has-come t row held c =
       let moved = subst (λ (x : State). Came x t pixels row held) (st .is) c in
       (moved .streamed, moved .exact)
+
+  -- the next grown row is the first that the same-size blur takes
+  pub is-taken : (left : ℕ) (row : List ℕ) → AcceptedPicture (recipe f) (picture w h pixels) → k ≡ order (recipe f .columns) / 2
+      → left ≡ order (recipe f .rows) / 2 → length row ≡ fullWidth (recipe f) w → Taken s left pixels row cells
+  is-taken left row ok above half wide =
+      subst (λ (t : State). Taken t left pixels row cells) (sym (st .is))
+      (record {
+        picture = ok;
+        streamed =
+            subst (λ n. Streamed f (picture w h pixels) n (record { filter = f; width = w; height = h; emitted = k }) cells) above
+            (subst (λ (t : State). Streamed f (picture w h pixels) k t cells) (st .is) st);
+        half = half;
+        wide = wide;
+      })

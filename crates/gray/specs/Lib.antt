@@ -1,3 +1,4 @@
 pub mod Rounded
+pub mod Written
 pub mod Division
 pub mod Streaming

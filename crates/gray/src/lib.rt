@@ -2,5 +2,7 @@
 // one place.
 mod rounding;
 mod rows;
+mod same;
 
 pub use rounding::round;
+pub use same::blur;

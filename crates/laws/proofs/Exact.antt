@@ -3,23 +3,23 @@
 -- Assumes nothing.
 use mathlib.Core.Path.{_≡_, refl, sym, ap, ap₂, _∙_}
 use mathlib.Core.Bool.{Bool, true, false, cond, _&&_}
-use mathlib.Core.List.{List, _++_, flatten}
-use Prim.Native.Nat.{ℕ, zero, suc, _+_, _-_, _*_, _≤_, _<_}
-use native.Mathlib.Nat.{le-trans, le-of-eq, zero-mul, mul-comm, mul-assoc, suc-mul, mul-le-mul-left}
+use mathlib.Core.List.{List}
+use Prim.Native.Nat.{ℕ, suc, _+_, _-_, _*_, _≤_, _<_}
+use native.Mathlib.Nat.{le-trans, le-of-eq, mul-comm, mul-assoc, mul-le-mul-left}
 use native.Mathlib.Decide.{decLe}
 use native.Mathlib.Omega.{arith}
 use lib.Dec.{leb, ltb}
-use lib.ListN.{length, getD, length-append, List·getD-append}
-use lib.Seq.{getD-append-add}
+use lib.ListN.{length, getD}
 use borrow.Author.Tests.{lt-ltb, le-ltb}
-use Rattle.spec.specs.Words.{sum, tab, product}
+use Rattle.spec.specs.Words.{sum, product}
 use Rattle.spec.specs.Recipe.{Recipe, kernel, order, gain}
 use Rattle.spec.specs.Picture.{Picture, pixel, pixelBack, exact, fullWidth, fullHeight, fullRow, full}
 use Rattle.laws.proofs.Sums.{sum-agree, sum-le, sum-scale, sum-swap}
-use Rattle.laws.proofs.Lists.{length-tab, getD-tab, factor-pos}
+use Rattle.laws.proofs.Lists.{factor-pos}
 use Rattle.laws.proofs.Sequences.{behind, behind-within, behind-before}
 use Rattle.laws.proofs.Convolution.{conv-agree}
 use Rattle.laws.proofs.Kernels.{at, kernel-sum}
+use Rattle.laws.proofs.Rows.{length-rows, getD-rows}
 use Rattle.laws.proofs.Cascades.{cascaded, cascaded-conv, conv-short, kernel-short, behind-sum, behind-times}
 
 -- a pixel inside the picture, and black outside it
@@ -139,31 +139,6 @@ module _ (r : Recipe) (p : Picture) where
         (λ b. behind-small (across i) (255 * product (r .rows)) (across-small i) b j))
         (le-of-eq (mul-assoc 255 (product (r .rows)) (product (r .columns)))))
 
--- Rows one after the other: f j i at column i of row j, W columns and H rows.
-module _ (W : ℕ) where
-  pub length-rows : (H : ℕ) (f : ℕ → ℕ → ℕ) → length (flatten (tab H (λ j. tab W (f j)))) ≡ H * W
-  unfolding tab flatten
-  length-rows zero f = sym (zero-mul W)
-  length-rows (suc H) f =
-      let rest = flatten (tab H (λ j. tab W (f (suc j)))) in
-      omega (arith, length-append (tab W (f 0)) rest, length-tab W (f 0), length-rows H (λ j. f (suc j)), suc-mul H W)
-
-  pub getD-rows : (H : ℕ) (f : ℕ → ℕ → ℕ) (j i : ℕ) → j < H → i < W → getD (flatten (tab H (λ j. tab W (f j)))) (j * W + i) 0 ≡ f j i
-  unfolding tab flatten
-  getD-rows zero f j i h l = absurd (omega arith)
-  getD-rows (suc H) f zero i h l =
-      let rest = flatten (tab H (λ j. tab W (f (suc j)))) in
-      let e : 0 * W + i ≡ i = omega (arith, zero-mul W) in
-      ap (λ k. getD (tab W (f 0) ++ rest) k 0) e
-      ∙ List·getD-append (tab W (f 0)) rest 0 i (omega (arith, length-tab W (f 0)))
-      ∙ getD-tab W (f 0) i 0 l
-  getD-rows (suc H) f (suc j) i h l =
-      let rest = flatten (tab H (λ j. tab W (f (suc j)))) in
-      let e : suc j * W + i ≡ length (tab W (f 0)) + (j * W + i) = omega (arith, length-tab W (f 0), suc-mul j W) in
-      ap (λ k. getD (tab W (f 0) ++ rest) k 0) e
-      ∙ getD-append-add (tab W (f 0)) rest (j * W + i) 0
-      ∙ getD-rows H (λ j. f (suc j)) j i (omega arith) l
-
 -- all grown rows: their length, and the exact sum at each place
 pub length-full : (r : Recipe) (p : Picture) → length (full r p) ≡ fullHeight r (p .height) * fullWidth r (p .width)
 unfolding full fullRow
@@ -172,4 +147,4 @@ length-full r p = length-rows (fullWidth r (p .width)) (fullHeight r (p .height)
 pub getD-full : (r : Recipe) (p : Picture) (j i : ℕ) → j < fullHeight r (p .height) → i < fullWidth r (p .width)
     → getD (full r p) (j * fullWidth r (p .width) + i) 0 ≡ exact r p i j
 unfolding full fullRow
-getD-full r p j i h l = getD-rows (fullWidth r (p .width)) (fullHeight r (p .height)) (λ j i. exact r p i j) j i h l
+getD-full r p j i h l = getD-rows (fullWidth r (p .width)) (fullHeight r (p .height)) (λ j i. exact r p i j) 0 j i h l

@@ -2,6 +2,7 @@ pub mod Numbers
 pub mod Sums
 pub mod Lists
 pub mod Slices
+pub mod Rows
 pub mod Refusals
 pub mod Sequences
 pub mod Convolution

@@ -4,14 +4,14 @@
 use mathlib.Core.Path.{_≡_, refl, sym, ap, ap₂, subst, _∙_}
 use mathlib.Core.List.{List, _∷_, _++_, append-nil, append-assoc}
 use Prim.Native.Nat.{ℕ, suc, _+_, _-_, _≤_, _<_}
-use native.Mathlib.Nat.{le-refl, add-sub-of-le}
+use native.Mathlib.Nat.{le-refl, add-sub-of-le, sub-zero}
 use native.Mathlib.Decide.{decLt}
 use native.Mathlib.Numerals.{add-one}
 use native.Mathlib.Omega.{arith}
 use lib.ListN.{length, getD, take, drop, set, length-append, length-drop, take-append-drop, drop-of-length-le, List·getD-append}
 use Rattle.spec.specs.Words.{tab}
 use Rattle.laws.proofs.Lists.{length-tab, getD-tab}
-use lib.Seq.{length-take-le, take-all, take-suc, drop-cons, append-snoc, set-at, getD-take, getD-drop, getD-append-add, ext-getD}
+use lib.Seq.{length-take-le, take-all, take-at, take-suc, drop-cons, append-snoc, set-at, getD-take, getD-drop, getD-append-add, ext-getD}
 
 module _ {A : Type 0} where
   -- the first i entries of one list, then the rest of another
@@ -190,6 +190,18 @@ module _ {A : Type 0} where
         | yes g ↦ mixed-front d m k g ∙ e k g
         | no g ↦ mixed-back d m k (omega arith)
       ])
+
+-- the length of a part that is lent
+pub length-lent : {A : Type 0} (from n : ℕ) (l : List A) → from + n ≤ length l → length (take (from + n - from) (drop from l)) ≡ n
+length-lent from n l h =
+    let size : from + n - from ≡ n = omega arith in
+    length-take-le (from + n - from) (drop from l) (omega (arith, length-drop from l)) ∙ size
+
+-- a front of a slice was lent and came back as ys, and the rest was not lent
+pub front-lent : {A : Type 0} (lent front : ℕ) → lent ≡ front → (ys old : List A) → length ys ≡ lent
+    → ys ++ drop (lent - 0) old ≡ take front (ys ++ drop (lent - 0) old) ++ drop front old
+front-lent lent front q ys old e =
+    ap₂ _++_ (sym (take-at ys (drop (lent - 0) old) front (e ∙ q))) (ap (λ n. drop n old) (sub-zero lent ∙ q))
 
 -- A slice of which a part in the middle, from a on, is rewritten as ys.
 module _ {A : Type 0} (a : ℕ) (ys old : List A) (h : a + length ys ≤ length old) where

@@ -1,25 +1,17 @@
 -- What the method answers and leaves in the two slices, check by check.
 -- Assumes nothing.
-use mathlib.Core.Path.{_≡_, refl, sym, ap, ap₂, _∙_}
-use mathlib.Core.Bool.{not, cond}
+use mathlib.Core.Path.{_≡_, refl, sym, _∙_}
+use mathlib.Core.Bool.{cond}
 use mathlib.Core.List.{List, _++_}
 use Prim.Native.Nat.{ℕ, _-_, _*_, _≤_, _<_}
-use native.Mathlib.Nat.{sub-zero}
 use native.Mathlib.Omega.{arith}
 use lib.ListN.{length, take, drop}
-use lib.Seq.{take-at}
 use borrow.Author.Tests.{eq-eqb, ne-eqb, lt-ltb, le-ltb}
 use Rattle.spec.specs.Recipe.{Recipe}
 use Rattle.spec.specs.Picture.{Picture, full}
 use Rattle.spec.specs.Refusals.{check, first, otherOutput, tooFewCells, fullSize, sizeChecks, passChecks}
 use Rattle.laws.proofs.Refusals.{lent-refused, lent-accepted, picture-sides, picture-pixels, picture-rest}
 use Rattle.passes.specs.Passed.{checks, Passed}
-
--- the needed cells came back as ys, and the others were not lent
-pub cells-after : (lent needed : ℕ) → lent ≡ needed → (ys cells : List ℕ) → length ys ≡ lent
-    → ys ++ drop (lent - 0) cells ≡ take needed (ys ++ drop (lent - 0) cells) ++ drop needed cells
-cells-after lent needed q ys cells e =
-    ap₂ _++_ (sym (take-at ys (drop (lent - 0) cells) needed (e ∙ q))) (ap (λ n. drop n cells) (sub-zero lent ∙ q))
 
 module _ (r : Recipe) (p : Picture) (out cells : List ℕ) where
   refused-by : (n : ℕ) → first (checks r p out cells) ≡ n → (n ≡ 0 → ⊥) → Passed r p out cells n out cells

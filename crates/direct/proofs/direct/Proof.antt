@@ -7,7 +7,7 @@ use Rattle.spec.specs.Recipe.{recipe, kernel}
 use Rattle.spec.specs.Refusals.{first}
 use Rattle.spec.specs.Picture.{picture}
 use Rattle.direct.specs.Formed.{checks}
-use Rattle.direct.proofs.Forming.{Called, is-called, rows-light, columns-light, filled-whole, called-ready, called-size, called-full, formed-refused, formed-all}
+use Rattle.direct.proofs.Forming.{Called, is-called, kernels-filled, held-ready, held-size, held-full, formed-refused, formed-all}
 use Rattle.direct.proofs.direct.Statement.{statement}
 use Rattle.direct.proofs.direct.Tie as tie
 
@@ -39,19 +39,14 @@ filled : (c : tie.After-kernel2) → let r = recipe (c .before .before .before .
     (c .before .before .before .before .kernel .last .1 .0 ≡ kernel (r .rows)) × (c .kernel2 .last .1 .0 ≡ kernel (r .columns))
 unfolding recipe
 filled c =
-    let args = c .before .before .before .before .before .before .before .before .before .before .before .before .args in
-    let r = recipe (args .filter) in
-    let p = picture (args .width) (args .height) (args .pixels .now) in
-    let k = called (c .before .before .before .before .before .before) in (
-      filled-whole (r .rows) (args .row-kernel .now) _ _ (rows-light r p (k .picture .recipe)) (k .rowSize) (c .before .before .before .before .kernel .ensures),
-      filled-whole (r .columns) (args .column-kernel .now) _ _ (columns-light r p (k .picture .recipe)) (k .columnSize) (c .kernel2 .ensures),
-    )
+    let k = called (c .before .before .before .before .before .before) in
+    kernels-filled _ (k .picture .recipe) _ _ _ _ _ _ (k .rowSize) (k .columnSize) (c .before .before .before .before .kernel .ensures) (c .kernel2 .ensures)
 
 form-requires : tie.Need-form-requires
 form-requires c κs =
     let f = filled (c .before .before .before .before .before) in
     let k = called (c .before .before .before .before .before .before .before .before .before .before .before) in
-    (called-ready _ _ _ _ _ k _ _ (f .0) (f .1), called-size _ _ _ _ _ k _ _ (f .0) (f .1))
+    (held-ready _ _ (k .picture) _ _ (f .0) (f .1), held-size _ _ (k .picture) _ _ (f .0) (f .1) _ (k .outSize))
 
 same-length : tie.Need-same-length
 same-length c = search needs
@@ -67,7 +62,7 @@ returns-2 c =
     let f = filled (c .before .before .before .before .before .before .before .before) in
     let e = c .before .before .before .before .before .before .before .before .before .before .before .before .before .before in
     formed-all _ _ _ _ _ _ _ _ (none e) (f .0) (f .1)
-    (called-full _ _ _ _ _ (called e) _ _ (f .0) (f .1) _ (c .before .before .form .ensures))
+    (held-full _ _ (called e .picture) _ _ (f .0) (f .1) _ (c .before .before .form .ensures))
 
 pub direct-spec : {M : Type 1} → statement M
 direct-spec =

@@ -10,8 +10,9 @@ use lib.Seq.{length-take-le}
 use Rattle.spec.specs.Recipe.{recipe}
 use Rattle.spec.specs.Picture.{Picture, fullWidth, fullHeight}
 use Rattle.spec.specs.Refusals.{fullSize}
+use Rattle.laws.proofs.Slices.{front-lent}
 use Rattle.laws.proofs.Refusals.{is-sized, is-accepted-picture, picture-passed}
-use Rattle.passes.proofs.Answering.{cells-after, passed-pixels, passed-output, passed-cells, passed-all}
+use Rattle.passes.proofs.Answering.{passed-pixels, passed-output, passed-cells, passed-all}
 use Rattle.passes.proofs.sized.Statement.{statement}
 use Rattle.passes.proofs.sized.Tie as tie
 
@@ -121,7 +122,7 @@ returns-4 c =
     let e = size-is (c .before .before .before .before .before .before .before .before .before) in
     let long = run .kept .1 .1 .1 .1 .1 .1 .1 .0 ∙ part-long (c .before .before .before .before .before .before) in
     passed-all r p (args .out .now) (args .cells .now) (start .pre .0) (if1 .left) (if2 .left ∙ e) (le-trans (le-of-eq (sym e)) (if3 .left)) _ _
-    (run .ensures) (cells-after _ _ e (run .last .1 .1 .1 .1 .1 .1 .1 .0) (args .cells .now) long) (same-length-2 c)
+    (run .ensures) (front-lent _ _ e (run .last .1 .1 .1 .1 .1 .1 .1 .0) (args .cells .now) long) (same-length-2 c)
 
 pub sized-spec : {M : Type 1} → statement M
 sized-spec =

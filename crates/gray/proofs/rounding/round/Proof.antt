@@ -1,15 +1,12 @@
 -- `gray::rounding::round` meets its contract: the recipe's checks, then 7 and 11, then the greys.
 -- Assumes nothing.
-use mathlib.Core.Path.{_≡_, refl, sym, ap, subst, _∙_}
-use mathlib.Core.Bool.{true, false, cond}
-use Prim.Native.Nat.{_*_, _≤_}
-use native.Mathlib.Nat.{mul-le-mul-left}
+use mathlib.Core.Path.{_≡_, sym, ap, subst, _∙_}
+use mathlib.Core.Bool.{true, false}
 use native.Mathlib.Omega.{arith}
 use borrow.Author.Needs.{needs}
-use lib.ListN.{length}
 use Rattle.spec.specs.Recipe.{recipe, gain}
-use Rattle.spec.specs.Refusals.{first, recipeChecks, roundChecks, tooBright}
-use Rattle.filter.proofs.Refusal.{number-is, Known, known, measured-refused}
+use Rattle.spec.specs.Refusals.{roundChecks, tooBright}
+use Rattle.filter.proofs.Refusal.{Known, known, measured-refused}
 use Rattle.gray.specs.Division.{Divides, Bounded}
 use Rattle.gray.proofs.Greys.{none-bright, by-length, by-brightness, round-refused, round-all}
 use Rattle.gray.proofs.rounding.round.Statement.{statement}

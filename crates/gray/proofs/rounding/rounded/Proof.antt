@@ -1,8 +1,7 @@
 -- `gray::rounding::rounded` meets its contract: by the shift, which divides by a weight with a single bit set, or by the division.
 -- Assumes nothing.
-use mathlib.Core.Path.{ap, ap₂, subst, sym, _∙_}
+use mathlib.Core.Path.{ap, ap₂, subst, sym}
 use Prim.Native.Nat.{_+_, _/_, _≤_}
-use native.Mathlib.Omega.{arith}
 use borrow.Author.Needs.{needs}
 use Rattle.spec.specs.Gray.{gray}
 use Rattle.gray.proofs.Dividing.{by-shift, gray-small}

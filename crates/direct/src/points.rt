@@ -1,0 +1,108 @@
+// The exact sum at one picture place, formed from the window alone.
+ghost use mathlib.Core.Path.{_≡_};
+ghost use Prim.Native.Nat.{_+_, _<_};
+ghost use lib.ListN.{length};
+ghost use Rattle.spec.specs.Recipe.{recipe, order};
+ghost use Rattle.spec.specs.Picture.{picture, exact};
+ghost use Rattle.spec.specs.Gray.{sameSum};
+ghost use Rattle.spec.specs.Refusals.{first, answer, readingChecks};
+ghost use Rattle.laws.proofs.Refusals.{AcceptedPicture};
+ghost use Rattle.direct.specs.Answers.{pointTold};
+use crate::sums::down;
+use filter::FullSize;
+use spec::Filter;
+
+// The exact sum that the same-size blur takes at one picture place, or the number of the refusal.
+pub enum Point {
+    Sum(u64),
+    Refused(u8),
+}
+
+// The number of the first of 1 to 6 and 15 that applies, 0 where none does.
+fn refusal(
+    filter: Filter,
+    width: usize,
+    height: usize,
+    pixels: &[u8],
+    column: usize,
+    row: usize,
+) -> u8
+    ensures { λ r. ⌜ r ≡ first (readingChecks (recipe filter) (picture width height (now (pixels .entry))) column row) ⌝ }
+{
+    let answer = filter::full_size(filter, width, height);
+    match answer {
+        FullSize::Refused(number) => number,
+        FullSize::Sides {
+            width: _,
+            height: _,
+        } => {
+            if pixels.len() != width * height {
+                6
+            } else if width <= column {
+                15
+            } else if height <= row {
+                15
+            } else {
+                0
+            }
+        }
+    }
+}
+
+// The sum at grown column i, row j, with R and C filled into slices of exactly their lengths.
+fn window_sum(
+    filter: Filter,
+    width: usize,
+    height: usize,
+    pixels: &[u8],
+    rows: &mut [u64],
+    columns: &mut [u64],
+    i: usize,
+    j: usize,
+) -> u64
+    requires { ⌜ AcceptedPicture (recipe filter) (picture width height (now pixels)) ⌝ }
+    requires { ⌜ (length (now rows) ≡ order (recipe filter .rows) + 1) × (length (now columns) ≡ order (recipe filter .columns) + 1) ⌝ }
+    requires { ⌜ (i < width + order (recipe filter .rows)) × (j < height + order (recipe filter .columns)) ⌝ }
+    ensures { λ r. ⌜ r ≡ exact (recipe filter) (picture width height (now (pixels .entry))) i j ⌝ }
+{
+    filter::kernel(filter.rows, rows);
+    filter::kernel(filter.columns, columns);
+    down(pixels, width, height, rows, columns, i, j)
+}
+
+// The exact sum that the same-size blur takes at a picture place, from the window alone, cut to the
+// picture: refused by 1 to 6 and 15.
+pub fn point_sum(
+    filter: Filter,
+    width: usize,
+    height: usize,
+    pixels: &[u8],
+    column: usize,
+    row: usize,
+) -> Point
+    ensures { λ r. let p = picture width height (now (pixels .entry)) in
+        ⌜ pointTold r ≡ answer (readingChecks (recipe filter) p column row) (sameSum (recipe filter) p column row) ⌝ }
+{
+    let number = refusal(filter, width, height, pixels, column, row);
+    if number != 0 {
+        return Point::Refused(number);
+    }
+    let m = filter::measure(filter);
+    let rx = m.row_order;
+    let ry = m.column_order;
+    let z: usize = 0;
+    let row_end = rx + 1;
+    let column_end = ry + 1;
+    let mut row_kernel = [0u64; 256];
+    let mut column_kernel = [0u64; 256];
+    Point::Sum(window_sum(
+        filter,
+        width,
+        height,
+        pixels,
+        &mut row_kernel[z..row_end],
+        &mut column_kernel[z..column_end],
+        column + rx / 2,
+        row + ry / 2,
+    ))
+}

@@ -1,0 +1,112 @@
+-- The part of a grown row that the same-size blur takes, and that twice the grown size is enough cells for the one pass.
+-- Assumes nothing.
+use mathlib.Core.Path.{_≡_, refl, ap, ap₂, _∙_}
+use mathlib.Core.Bool.{Bool, true, false, cond}
+use mathlib.Core.List.{List, [], _∷_}
+use Prim.Native.Nat.{ℕ, _+_, _-_, _*_, _/_, _≤_, _<_}
+use native.Mathlib.Nat.{le-trans, le-of-eq, mul-add, mul-one, mul-le-mul-left, mul-left-comm}
+use native.Mathlib.Decide.{decLt}
+use native.Mathlib.Omega.{arith}
+use lib.Dec.{ltb, eqb}
+use lib.ListN.{length, getD, take, drop, length-drop, List·getD-eq-default}
+use lib.Seq.{length-take-le, getD-take, getD-drop}
+use borrow.Author.Tests.{le-ltb, ltb-false, eqb-true, eqb-false}
+use Rattle.spec.specs.Words.{tab, total}
+use Rattle.spec.specs.Recipe.{Recipe, order, gain}
+use Rattle.spec.specs.Picture.{Picture, exact, fullWidth, fullHeight, fullRow}
+use Rattle.spec.specs.Stream.{boxCells, cascadeCells, streamCells}
+use Rattle.spec.specs.Gray.{gray, sameColumn, sameRow, sameSum, sameGray}
+use Rattle.spec.specs.Refusals.{first, tooFewCells, sizeChecks, pictureChecks, startChecks, fullSize}
+use Rattle.laws.proofs.Lists.{length-tab, getD-tab, tab-agree}
+use Rattle.laws.proofs.Exact.{exact-small}
+use Rattle.laws.proofs.Refusals.{none-both, first-then, size-numbered, is-sized}
+use Rattle.stream.specs.OnePass.{Bytes}
+use Rattle.gray.specs.Division.{Bounded}
+
+-- ---- the places that are taken
+
+module _ (r : Recipe) (p : Picture) (j : ℕ) (row : List ℕ) (is : row ≡ fullRow r p (sameRow r j)) where
+  pub long : length row ≡ fullWidth r (p .width)
+  unfolding fullRow
+  long = ap length is ∙ length-tab (fullWidth r (p .width)) (λ i. exact r p i (sameRow r j))
+
+  module _ (left n : ℕ) (half : left ≡ order (r .rows) / 2) (many : n ≡ p .width) where
+    -- the sums from the left place on, as many as the picture is wide
+    abbrev middle : List ℕ
+    middle = take n (drop left row)
+
+    pub middle-length : length middle ≡ p .width
+    unfolding fullWidth
+    middle-length = length-take-le n (drop left row) (omega (arith, length-drop left row, long)) ∙ many
+
+    pub middle-at : (i : ℕ) → i < p .width → getD middle i 0 ≡ sameSum r p i j
+    unfolding fullRow fullWidth sameSum sameColumn
+    middle-at i h =
+        let place : left + i ≡ i + order (r .rows) / 2 = omega arith in
+        getD-take n (drop left row) i 0 (omega arith)
+        ∙ getD-drop left row i 0
+        ∙ ap₂ (λ l k. getD l k 0) is place
+        ∙ getD-tab (p .width + order (r .rows)) (λ k. exact r p k (sameRow r j)) (i + order (r .rows) / 2) 0 (omega arith)
+
+    pub middle-bounded : Bytes p → Bounded (gain r) middle
+    unfolding sameSum
+    middle-bounded small i =
+        elim (decLt i (p .width)) [
+          | yes h ↦ le-trans (le-of-eq (middle-at i h)) (exact-small r p small (sameColumn r i) (sameRow r j))
+          | no h ↦ omega (arith, List·getD-eq-default middle 0 (past i (omega arith)))
+        ]
+      where
+        past : (i : ℕ) → p .width ≤ i → length middle ≤ i
+        past i h = omega (arith, middle-length)
+
+    -- their greys
+    pub middle-greys : (weight m : ℕ) → weight ≡ gain r → m ≡ p .width
+        → tab m (λ i. gray weight (getD middle i 0)) ≡ tab (p .width) (λ i. sameGray r p i j)
+    unfolding sameGray
+    middle-greys weight m w e =
+        ap (λ k. tab k (λ i. gray weight (getD middle i 0))) e
+        ∙ tab-agree (p .width) (λ i. gray weight (getD middle i 0)) (λ i. gray (gain r) (sameSum r p i j)) (λ i h. ap₂ gray w (middle-at i h))
+
+-- ---- work cells
+
+box-enough : (n : ℕ) → boxCells n ≤ 2 * (n - 1)
+unfolding boxCells
+box-enough n = go (ltb n 2) (eqb n 2) (λ e. ltb-false n 2 e) (λ e. eqb-true n 2 e) (λ e. eqb-false n 2 e)
+  where
+    go : (a b : Bool) → (a ≡ false → 2 ≤ n) → (b ≡ true → n ≡ 2) → (b ≡ false → n ≡ 2 → ⊥) → cond a 0 (cond b 1 n) ≤ 2 * (n - 1)
+    go true b two is other = omega arith
+    go false true two is other = omega (arith, two refl)
+    go false false two is other = omega (arith, two refl)
+
+cascade-enough : (ns : List ℕ) → cascadeCells ns ≤ 2 * order ns
+unfolding cascadeCells order total
+cascade-enough [] = omega arith
+cascade-enough (n ∷ ns) = omega (arith, box-enough n, cascade-enough ns)
+
+-- twice the grown size is always enough
+pub stream-enough : (r : Recipe) (p : Picture) → 0 < p .height → streamCells r (p .width) ≤ 2 * fullSize r p
+unfolding streamCells fullSize fullWidth fullHeight
+stream-enough r p h =
+    let W = p .width + order (r .rows) in
+    let rows = cascade-enough (r .rows) in
+    let columns : W * cascadeCells (r .columns) ≤ W * (2 * order (r .columns)) = mul-le-mul-left W (cascade-enough (r .columns)) in
+    let once : W * 1 ≤ W * p .height = mul-le-mul-left W h in
+    omega (
+      arith,
+      rows,
+      columns,
+      once,
+      mul-one W,
+      mul-add W (p .height) (order (r .columns)),
+      mul-left-comm W 2 (order (r .columns)),
+    )
+
+-- so that a start with so many cells, or more, is accepted with an accepted picture
+pub start-accepted : (r : Recipe) (p : Picture) (cells : ℕ) → first (pictureChecks r p) ≡ 0 → 2 * fullSize r p ≤ cells
+    → first (startChecks r (p .width) (p .height) cells) ≡ 0
+unfolding pictureChecks startChecks tooFewCells
+start-accepted r p cells z h =
+    let sized = none-both (sizeChecks r (p .width) (p .height)) _ (size-numbered r (p .width) (p .height)) z .0 in
+    let tall = is-sized r (p .width) (p .height) sized .1 .height .0 in
+    first-then (sizeChecks r (p .width) (p .height)) _ 8 (size-numbered r (p .width) (p .height)) sized
+    ∙ ap (λ b. cond b 8 0) (le-ltb cells (streamCells r (p .width)) (omega (arith, stream-enough r p tall)))

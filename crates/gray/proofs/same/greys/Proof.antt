@@ -1,0 +1,218 @@
+-- `gray::same::greys` meets its contract: each turn has the next grown row come, and writes one row of greys.
+-- Assumes nothing.
+use mathlib.Core.Path.{_≡_, sym, ap, subst, _∙_}
+use Prim.Native.Nat.{ℕ, _+_, _-_, _*_, _/_, _≤_, _<_}
+use native.Mathlib.Nat.{mul-comm, mul-le-mul, zero-add, zero-mul, suc-mul}
+use native.Mathlib.Omega.{arith}
+use borrow.Author.Needs.{needs}
+use lib.ListN.{length, getD, take, drop}
+use Rattle.spec.specs.Recipe.{recipe, order}
+use Rattle.spec.specs.Picture.{fullWidth, fullHeight, fullRow}
+use Rattle.spec.specs.Gray.{gray, places, sameRow, sameGray}
+use Rattle.laws.proofs.Numbers.{row-fits}
+use Rattle.laws.proofs.Slices.{Mixed, mixed-none, mixed-all, length-mixed, length-lent}
+use Rattle.laws.proofs.Rows.{length-rows, rows-more}
+use Rattle.gray.specs.Division.{Divides, Bounded}
+use Rattle.gray.specs.Streaming.{Streamed, pictureOf}
+use Rattle.gray.proofs.Driving.{is-due, has-come}
+use Rattle.gray.proofs.Taking.{long, middle-length, middle-bounded, middle-greys}
+use Rattle.gray.proofs.same.greys.Statement.{statement}
+use Rattle.gray.proofs.same.greys.Tie as tie
+
+abbrev Inv-loop : tie.InvT-loop
+Inv-loop by left pixels row₀ out₀ cells₀ width right at₀ from₀ j₀ j-end row out cells at from j =
+    let p = pictureOf at₀ pixels in
+    let r = recipe (at₀ .filter) in
+    (j-end ≡ at₀ .height) × (j ≤ at₀ .height) × (from ≡ j * width) × (length row ≡ length row₀) × (length out ≡ length out₀) × (length cells ≡ length cells₀)
+    × Streamed (at₀ .filter) p (sameRow r j) at cells × Mixed from (places p (sameGray r p)) out₀ out
+
+abbrev μ-loop : tie.MeasureT-loop
+μ-loop by left pixels row₀ out₀ cells₀ width right at₀ from₀ j₀ j-end row out cells at from j = j-end - j
+
+-- the sizes of an accepted picture
+sizes : (c : tie.Start Inv-loop μ-loop) → let s = c .args .state in
+    (c .args .left + s .width ≤ fullWidth (recipe (s .filter)) (s .width)) × (fullWidth (recipe (s .filter)) (s .width) ≤ 1279) × (s .height * s .width ≤ 1024 * 1024)
+unfolding fullWidth
+sizes c =
+    let t = c .pre .0 in
+    let k = t .picture in (
+      omega (arith, t .half),
+      omega (arith, k .recipe .rowReach, k .sides .width),
+      mul-le-mul (k .sides .height .1) (k .sides .width .1),
+    )
+
+add-right : tie.Need-add-right Inv-loop μ-loop
+add-right c = omega (arith, sizes (c .before .before .before .before))
+
+loop-holds : tie.Need-loop-holds Inv-loop μ-loop
+unfolding places sameRow
+loop-holds c =
+    let start = c .before .before .before .before in
+    let s = start .args .state in
+    let r = recipe (s .filter) in
+    let p = pictureOf s (start .args .pixels .now) in
+    let out = start .args .out .now in
+    let size : length (places p (sameGray r p)) ≡ length out = length-rows (s .width) (s .height) (λ j i. sameGray r p i j) ∙ mul-comm (s .height) (s .width) ∙ sym (start .pre .2) in (
+      search needs,
+      omega arith,
+      omega (arith, zero-mul (s .width)),
+      search needs,
+      search needs,
+      search needs,
+      subst (λ k. Streamed (s .filter) p k s (start .args .cells .now)) (sym (zero-add (order (r .columns) / 2))) (start .pre .0 .streamed),
+      mixed-none (places p (sameGray r p)) out size,
+    )
+
+next-requires : tie.Need-next-requires Inv-loop μ-loop
+unfolding fullHeight sameRow
+next-requires c κs =
+    let turn = c .before .before .before in
+    let start = turn .before .before .before .before .before in
+    is-due _ _ _ _ _ _ _ (turn .loop .inv .6) _ (start .pre .0 .picture .size) (omega (arith, c .before .before .loop-test .taken, turn .loop .inv .0))
+    (turn .loop .inv .3 ∙ start .pre .0 .wide)
+
+-- the row that has come
+came : (c : tie.After-next Inv-loop μ-loop) → let turn = c .before .before .before .before in let s = turn .before .before .before .before .before .args .state in
+    let p = pictureOf s (turn .before .before .before .before .before .args .pixels .now) in let r = recipe (s .filter) in
+    Streamed (s .filter) p (sameRow r (turn .loop .j) + 1) (c .next .result) (c .next .last .1 .1 .1 .0)
+    × (c .next .last .1 .1 .0 ≡ fullRow r p (sameRow r (turn .loop .j)))
+came c = has-come _ _ _ _ _ _ _ (c .before .before .before .before .loop .inv .6) _ _ _ (c .next .ensures)
+
+-- the row of greys lies inside the output
+inside : (c : tie.In-loop Inv-loop μ-loop) → let turn = c .before in turn .loop .from + turn .before .before .before .before .before .args .state .width ≤ length (turn .loop .out)
+inside c =
+    let turn = c .before in
+    let start = turn .before .before .before .before .before in
+    let s = start .args .state in
+    omega (
+      arith,
+      turn .loop .inv .2,
+      turn .loop .inv .4,
+      start .pre .2,
+      mul-comm (s .width) (s .height),
+      row-fits (s .width) (turn .loop .j) (s .height) (omega (arith, c .loop-test .taken, turn .loop .inv .0)),
+    )
+
+add-to : tie.Need-add-to Inv-loop μ-loop
+add-to c =
+    let start = c .before .before .before .before .before .before .before .before .before .before .before .before .before in
+    omega (arith, sizes start, inside (c .before .before .before .before .before .before .before), c .before .before .before .before .before .before .before .before .loop .inv .4, start .pre .2, mul-comm (start .args .state .width) (start .args .state .height))
+
+mul-round-row : tie.Need-mul-round-row Inv-loop μ-loop
+mul-round-row c = omega (arith, sizes (c .before .before .before .before .before .before .before .before .before .before .before .before .before))
+
+sub-round-row : tie.Need-sub-round-row Inv-loop μ-loop
+sub-round-row c = search needs
+
+part-round-row-start : tie.Need-part-round-row-start Inv-loop μ-loop
+part-round-row-start c = search needs
+
+part-round-row-end : tie.Need-part-round-row-end Inv-loop μ-loop
+part-round-row-end c =
+    let row = c .before .before .before .before .before in
+    omega (arith, sizes (c .before .before .before .before .before .before .before .before .before .before .before .before .before .before), long _ _ _ _ (came row .1))
+
+sub-round-row-2 : tie.Need-sub-round-row-2 Inv-loop μ-loop
+sub-round-row-2 c = search needs
+
+part-round-row-start-2 : tie.Need-part-round-row-start-2 Inv-loop μ-loop
+part-round-row-start-2 c = search needs
+
+part-round-row-end-2 : tie.Need-part-round-row-end-2 Inv-loop μ-loop
+part-round-row-end-2 c = inside (c .before .before .before .before .before .before .before .before .before)
+
+round-row-requires : tie.Need-round-row-requires Inv-loop μ-loop
+round-row-requires c κs =
+    let start = c .before .before .before .before .before .before .before .before .before .before .before .before .before .before .before .before in
+    let by = start .args .by in
+    let s = start .args .state in
+    let p = pictureOf s (start .args .pixels .now) in
+    let r = recipe (s .filter) in
+    let row = c .before .before .before .before .before .before .before in
+    let d = start .pre .1 in
+    let many : start .args .left + s .width - start .args .left ≡ s .width = omega arith in
+    let bytes : (k : ℕ) → getD (p .pixels) k 0 ≤ 255 = λ k. omega (arith, c .before .before .before .before .before .before .before .before .before .before .before .before .before .before .before .shared-slice-known .given k) in (
+      subst (λ w. Divides w by) (sym (d .is)) d,
+      subst (λ w. Bounded w (take (start .args .left + s .width - start .args .left) (drop (start .args .left) (row .next .last .1 .1 .0)))) (sym (d .is)) (middle-bounded r p _ _ (came row .1) (start .args .left) _ (start .pre .0 .half) many bytes),
+      middle-length r p _ _ (came row .1) (start .args .left) _ (start .pre .0 .half) many ∙ sym (length-lent (c .before .before .before .before .before .before .before .before .before .before .before .loop .from) (s .width) (c .before .before .before .before .before .before .before .before .before .before .before .loop .out) (inside (c .before .before .before .before .before .before .before .before .before .before))),
+    )
+
+add-j : tie.Need-add-j Inv-loop μ-loop
+add-j c = search needs
+
+loop-less : tie.Need-loop-less Inv-loop μ-loop
+loop-less c = search needs
+
+loop-again : tie.Need-loop-again Inv-loop μ-loop
+unfolding places sameRow
+loop-again c =
+    let turn = c .before .before .before .before .before .before .before .before .before .before .before .before .before .before in
+    let test = c .before .before .before .before .before .before .before .before .before .before .before .before .before in
+    let start = turn .before .before .before .before .before in
+    let s = start .args .state in
+    let p = pictureOf s (start .args .pixels .now) in
+    let r = recipe (s .filter) in
+    let j = turn .loop .j in
+    let from = turn .loop .from in
+    let left = start .args .left in
+    let next = c .before .before .before .before .before .before .before .before .before .before in
+    let below : j < s .height = omega (arith, test .loop-test .taken, turn .loop .inv .0) in
+    let follows : sameRow r j + 1 ≡ sameRow r (j + 1) = omega arith in
+    let many : left + s .width - left ≡ s .width = omega arith in
+    let made =
+    c .before .before .round-row .ensures
+    ∙ middle-greys r p _ _ (came next .1) left _ (start .pre .0 .half) many _ _ (start .pre .1 .is) (length-lent from (s .width) (turn .loop .out) (inside test)) in
+    let written =
+    rows-more (s .width) (s .height) (λ j i. sameGray r p i j) 0 j from _ (turn .loop .inv .7) (turn .loop .inv .2) below (omega (arith, inside test, turn .loop .inv .4)) made in (
+      turn .loop .inv .0,
+      omega (arith, below),
+      omega (arith, turn .loop .inv .2, suc-mul j (s .width)),
+      long _ _ _ _ (came next .1) ∙ sym (start .pre .0 .wide),
+      length-mixed written,
+      next .next .kept .1 .1 .1 .0 ∙ turn .loop .inv .5,
+      subst (λ k. Streamed (s .filter) p k (next .next .result) (next .next .last .1 .1 .1 .0)) follows (came next .0),
+      written,
+    )
+
+same-length : tie.Need-same-length Inv-loop μ-loop
+same-length c = search needs
+
+same-length-2 : tie.Need-same-length-2 Inv-loop μ-loop
+same-length-2 c = search needs
+
+same-length-3 : tie.Need-same-length-3 Inv-loop μ-loop
+same-length-3 c = search needs
+
+returns : tie.Need-returns Inv-loop μ-loop
+returns c =
+    let turn = c .before in
+    let start = turn .before .before .before .before .before in
+    let s = start .args .state in
+    let done : turn .loop .j ≡ s .height = omega (arith, turn .loop .inv .0, turn .loop .inv .1, c .loop-test .left) in
+    mixed-all (turn .loop .inv .7) (omega (arith, turn .loop .inv .2, ap (λ k. k * s .width) done, mul-comm (s .height) (s .width), start .pre .2))
+
+pub greys-spec : {M : Type 1} → statement M
+greys-spec =
+    tie.close
+    (tie.spec
+    Inv-loop
+    μ-loop
+    add-right
+    loop-holds
+    next-requires
+    add-to
+    mul-round-row
+    sub-round-row
+    part-round-row-start
+    part-round-row-end
+    sub-round-row-2
+    part-round-row-start-2
+    part-round-row-end-2
+    round-row-requires
+    add-j
+    loop-less
+    loop-again
+    same-length
+    same-length-2
+    same-length-3
+    returns)

@@ -1,0 +1,168 @@
+-- `gray::same::sized` meets its contract, check by check, and then by that of `run`.
+-- Assumes nothing.
+use mathlib.Core.Path.{_≡_, sym, ap, ap₂, _∙_}
+use mathlib.Core.List.{[]}
+use Prim.Native.Nat.{_+_, _-_, _*_, _≤_}
+use native.Mathlib.Nat.{mul-le-mul, sub-zero}
+use native.Mathlib.Omega.{arith}
+use borrow.Author.Needs.{needs}
+use lib.ListN.{length, take, length-take}
+use lib.Seq.{length-take-le}
+use Rattle.spec.specs.Recipe.{recipe}
+use Rattle.spec.specs.Picture.{picture, fullWidth, fullHeight}
+use Rattle.spec.specs.Refusals.{first, fullSize}
+use Rattle.laws.proofs.Slices.{front-lent}
+use Rattle.laws.proofs.Refusals.{is-sized, picture-passed}
+use Rattle.gray.proofs.Answering.{written-not, written-all, by-output, by-cells, by-rest, blur-pixels, blur-rest}
+use Rattle.gray.proofs.same.sized.Statement.{statement}
+use Rattle.gray.proofs.same.sized.Tie as tie
+
+-- the sizes that are computed
+sizes : (c : tie.Start) → let args = c .args in
+    record {
+      size : args .width * args .height ≤ 1024 * 1024;
+      wide : args .width + args .m .«row_order» ≡ fullWidth (recipe (args .filter)) (args .width);
+      few : fullWidth (recipe (args .filter)) (args .width) ≤ 1279;
+      tall : args .height + args .m .«column_order» ≤ 1279;
+      product : (args .width + args .m .«row_order») * (args .height + args .m .«column_order») ≤ 1279 * 1279;
+      needed : 2 * ((args .width + args .m .«row_order») * (args .height + args .m .«column_order»))
+          ≡ 2 * fullSize (recipe (args .filter)) (picture (args .width) (args .height) (args .pixels .now));
+    }
+unfolding fullSize fullWidth fullHeight
+sizes c =
+    let args = c .args in
+    let k = c .pre .0 in
+    let s = is-sized _ (args .width) (args .height) (c .pre .1) .1 in
+    let wide : args .width + args .m .«row_order» ≤ 1279 = omega (arith, k .rowReach, k .accepted .rowReach, s .width) in
+    let tall : args .height + args .m .«column_order» ≤ 1279 = omega (arith, k .columnReach, k .accepted .columnReach, s .height) in
+    record {
+      size = mul-le-mul (s .width .1) (s .height .1);
+      wide = ap (λ n. args .width + n) (k .rowReach);
+      few = omega (arith, wide, k .rowReach);
+      tall = tall;
+      product = mul-le-mul wide tall;
+      needed = ap₂ (λ m n. 2 * ((args .width + m) * (args .height + n))) (k .rowReach) (k .columnReach);
+    }
+
+mul-size : tie.Need-mul-size
+mul-size c = omega (arith, sizes (c .before .before .before) .size)
+
+returns : tie.Need-returns
+returns c =
+    let start = c .before .before .before .before in
+    written-not _ _ _ _ _ 6 (blur-pixels _ _ _ _ (start .pre .1) (c .if1 .taken)) (λ e. omega arith)
+
+returns-2 : tie.Need-returns-2
+returns-2 c =
+    let start = c .before .before .before .before .before in
+    written-not _ _ _ _ _ 7 (blur-rest _ _ _ _ (start .pre .1) (c .before .if1 .left) ∙ by-output _ _ _ _ _ (c .if2 .taken)) (λ e. omega arith)
+
+add-full-width : tie.Need-add-full-width
+add-full-width c = let s = sizes (c .before .before .before .before .before .before) in omega (arith, s .wide, s .few)
+
+add-needed : tie.Need-add-needed
+add-needed c = omega (arith, sizes (c .before .before .before .before .before .before .before) .tall)
+
+mul-needed : tie.Need-mul-needed
+mul-needed c = omega (arith, sizes (c .before .before .before .before .before .before .before) .product)
+
+mul-needed-2 : tie.Need-mul-needed-2
+mul-needed-2 c = omega (arith, sizes (c .before .before .before .before .before .before .before) .product)
+
+returns-3 : tie.Need-returns-3
+returns-3 c =
+    let start = c .before .before .before .before .before .before .before .before in
+    let out = c .before .before .before in
+    written-not _ _ _ _ _ 8
+    (blur-rest _ _ _ _ (start .pre .1) (out .before .if1 .left) ∙ by-cells _ _ _ _ _ (out .if2 .left) (omega (arith, c .if3 .taken, sizes start .needed))) (λ e. omega arith)
+
+mul-row : tie.Need-mul-row
+mul-row c = search needs
+
+sub-run : tie.Need-sub-run
+sub-run c = search needs
+
+part-row-start : tie.Need-part-row-start
+part-row-start c = search needs
+
+part-row-end : tie.Need-part-row-end
+part-row-end c = let s = sizes (c .before .before .before .before .before .before .before .before) in omega (arith, s .wide, s .few)
+
+mul-run : tie.Need-mul-run
+mul-run c = search needs
+
+sub-run-2 : tie.Need-sub-run-2
+sub-run-2 c = search needs
+
+part-run-start : tie.Need-part-run-start
+part-run-start c = search needs
+
+part-run-end : tie.Need-part-run-end
+part-run-end c = search needs
+
+-- the cells that are lent are the needed ones
+part-long : (c : tie.Else3) → let args = c .before .before .before .before .before .before .before .before .args in
+    let needed = 2 * ((args .width + args .m .«row_order») * (args .height + args .m .«column_order»)) in
+    length (take (needed - 0) (args .cells .now)) ≡ 2 * fullSize (recipe (args .filter)) (picture (args .width) (args .height) (args .pixels .now))
+part-long c =
+    let start = c .before .before .before .before .before .before .before .before in
+    let args = start .args in
+    let needed = 2 * ((args .width + args .m .«row_order») * (args .height + args .m .«column_order»)) in
+    let inside : needed - 0 ≤ length (args .cells .now) = omega (arith, c .if3 .left) in
+    length-take-le (needed - 0) (args .cells .now) inside ∙ sub-zero needed ∙ sizes start .needed
+
+run-requires : tie.Need-run-requires
+run-requires c κs =
+    let start = c .before .before .before .before .before .before .before .before .before .before .before in
+    let s = sizes start in (
+      picture-passed _ (picture (start .args .width) (start .args .height) (start .args .pixels .now)) (start .pre .1) (c .before .before .before .before .before .before .before .if1 .left),
+      start .pre .0,
+      simp length-take (omega (arith, s .wide, s .few)),
+      c .before .before .before .before .before .before .if2 .left,
+      part-long (c .before .before .before),
+    )
+
+same-length : tie.Need-same-length
+same-length c = search needs
+
+same-length-2 : tie.Need-same-length-2
+same-length-2 c = search needs
+
+returns-4 : tie.Need-returns-4
+unfolding first
+returns-4 c =
+    let start = c .before .before .before .before .before .before .before .before .before .before .before .before .before .before .before .before .before in
+    let run = c .before .before .before .before .before .run in
+    let enough = c .before .before .before .before .before .before .before .before .before in
+    let out = c .before .before .before .before .before .before .before .before .before .before .before .before in
+    let s = sizes start in
+    written-all _ _ _ _ _
+    (blur-rest _ _ _ _ (start .pre .1) (out .before .if1 .left) ∙ by-rest _ _ _ _ [] (out .if2 .left) (omega (arith, enough .if3 .left, s .needed)))
+    _ _ (run .ensures)
+    (front-lent _ _ (s .needed) (run .last .1 .1 .1 .1 .1 .1 .1 .0) (start .args .cells .now) (run .kept .1 .1 .1 .1 .1 .1 .1 .0 ∙ part-long enough ∙ sym (s .needed)))
+    (same-length-2 c)
+
+pub sized-spec : {M : Type 1} → statement M
+sized-spec =
+    tie.close
+    (tie.spec
+    mul-size
+    returns
+    returns-2
+    add-full-width
+    add-needed
+    mul-needed
+    mul-needed-2
+    returns-3
+    mul-row
+    sub-run
+    part-row-start
+    part-row-end
+    mul-run
+    sub-run-2
+    part-run-start
+    part-run-end
+    run-requires
+    same-length
+    same-length-2
+    returns-4)

@@ -1,0 +1,30 @@
+-- What the same-size blur and the difference answer, and what the lent slices then contain.
+use mathlib.Core.Path.{_≡_}
+use mathlib.Core.List.{List, _++_}
+use Prim.Native.Nat.{ℕ, _+_, _*_}
+use lib.IntN.{ℤ}
+use lib.ListN.{length, take, drop}
+use Rattle.spec.specs.Recipe.{Recipe}
+use Rattle.spec.specs.Picture.{Picture}
+use Rattle.spec.specs.Gray.{places, sameGray, difference}
+use Rattle.spec.specs.Refusals.{Check, first, lent, fullSize, sameSizeChecks, differenceChecks}
+
+-- A call with these checks that makes a list in its output, with so many work cells needed.
+pub record Written {A : Type 0} (cs : List Check) (made : List A) (needed : ℕ) (out : List A) (cells : List ℕ) (number : ℕ) (newOut : List A) (newCells : List ℕ) : Type 0 where
+  -- 0, or the number of the first check that holds
+  pub answer : number ≡ first cs
+  -- what is made, or on a refusal what the slice held
+  pub output : newOut ≡ lent cs made out
+  -- the needed cells are free, and those beyond are what they were; on a refusal all are
+  pub work : newCells ≡ lent cs (take needed newCells ++ drop needed cells) cells
+  -- and there are as many cells as before
+  pub count : length newCells ≡ length cells
+
+-- Same-size blur: 1 to 8; the grey at each picture place; twice the grown size in work cells.
+abbrev pub Blurred : Recipe → Picture → List ℕ → List ℕ → ℕ → List ℕ → List ℕ → Type 0
+Blurred r p out cells = Written (sameSizeChecks r p (length out) (length cells)) (places p (sameGray r p)) (2 * fullSize r p) out cells
+
+-- Difference: A's 1 to 4, B's 1 to 4, then 5, 6, 7, 8, 12, 13; the difference at each picture place; twice both grown sizes together.
+abbrev pub Differenced : Recipe → Recipe → Picture → List ℤ → List ℕ → ℕ → List ℤ → List ℕ → Type 0
+Differenced a b p out cells =
+    Written (differenceChecks a b p (length out) (length cells)) (places p (difference a b p)) (2 * (fullSize a p + fullSize b p)) out cells
