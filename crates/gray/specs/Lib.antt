@@ -2,3 +2,6 @@ pub mod Rounded
 pub mod Written
 pub mod Division
 pub mod Streaming
+pub mod Sampled
+pub mod Expressed
+pub mod Sides

@@ -1,8 +1,14 @@
 // Document 01's greys: rounding, the same-size blur, the difference of two recipes, and the reading at
 // one place.
+mod pair;
+mod place;
 mod rounding;
 mod rows;
 mod same;
 
+pub use place::Quantity;
+pub use place::Sample;
+pub use place::Sampled;
+pub use place::reading;
 pub use rounding::round;
 pub use same::blur;

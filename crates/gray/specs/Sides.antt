@@ -1,0 +1,23 @@
+-- Words for the contracts of private functions; no exported contract uses them. The two recipes of a difference.
+use mathlib.Core.Path.{_≡_}
+use mathlib.Core.List.{List}
+use Prim.Native.Nat.{ℕ, _*_, _^_, _≤_}
+use lib.ListN.{length, take, drop}
+use Rattle.spec.specs.Recipe.{recipe, gain}
+use Rattle.gray.specs.declared.rounding.Divisor.{Divisor}
+use Rattle.gray.specs.declared.pair.Pair.{Pair}
+use Rattle.gray.specs.declared.pair.Side.{Side}
+use Rattle.gray.specs.Division.{Divides}
+use Rattle.gray.specs.Streaming.{Taken}
+
+-- Both one passes of the same picture stand before the first row that is taken, each with its own part of the cells.
+pub record BothTaken (pair : Pair) (a b : Side) (by : Divisor) (middle : ℕ) (pixels aRow bRow cells : List ℕ) : Type 0 where
+  pub first : Taken (pair .a) (a .left) pixels aRow (take middle cells)
+  pub second : Taken (pair .b) (b .left) pixels bRow (drop middle cells)
+  pub sameWidth : pair .b .width ≡ pair .a .width
+  pub sameHeight : pair .b .height ≡ pair .a .height
+  pub inside : middle ≤ length cells
+  pub small : middle ≤ 2 ^ 22
+  pub aGain : a .gain ≡ gain (recipe (pair .a .filter))
+  pub bGain : b .gain ≡ gain (recipe (pair .b .filter))
+  pub divides : Divides (a .gain * b .gain) by

@@ -1,0 +1,130 @@
+// The difference of two recipes.
+ghost use mathlib.Core.Path.{_≡_};
+ghost use Prim.Native.Nat.{_*_, _^_, _≤_};
+ghost use lib.ListN.{length, getD, take, drop};
+ghost use Rattle.spec.specs.Words.{tab};
+ghost use Rattle.spec.specs.Recipe.{recipe};
+ghost use Rattle.spec.specs.Gray.{nearestDifference, places, difference as differenceOf};
+ghost use Rattle.gray.specs.Division.{Divides, Bounded};
+ghost use Rattle.gray.specs.Streaming.{pictureOf, Due, Came};
+ghost use Rattle.gray.specs.Sides.{BothTaken};
+use crate::rounding::Divisor;
+use crate::rounding::divisor_of;
+use crate::rounding::rounded;
+use crate::rows::begin;
+use crate::rows::next;
+use filter::FullSize;
+use filter::Measures;
+use filter::full_size;
+use filter::measure;
+use spec::Filter;
+use stream::State;
+
+// The largest weight, and the largest product of two.
+const HEAVIEST: u64 = 17_592_186_044_416;
+
+// (x - y) over the weight, to the nearest whole number, a half away from zero. It is rounded once,
+// whatever the sign, so that a loop has no branch on the sign.
+fn signed(x: u64, y: u64, by: Divisor) -> i16
+    requires { ⌜ Divides (by .weight) by × (x ≤ 255 * by .weight) × (y ≤ 255 * by .weight) ⌝ }
+    ensures { λ r. ⌜ r ≡ nearestDifference x y (by .weight) ⌝ }
+{
+    let gap = if y <= x { x - y } else { y - x };
+    let size = rounded(gap, by) as i16;
+    if y <= x { size } else { -size }
+}
+
+// The differences of two rows of sums; `by` divides by the product of the weights.
+fn difference_row(
+    by: Divisor,
+    a_gain: u64,
+    b_gain: u64,
+    a_sums: &[u64],
+    b_sums: &[u64],
+    out: &mut [i16],
+)
+    requires { ⌜ Divides («a_gain» * «b_gain») by × Bounded «a_gain» (now «a_sums») × Bounded «b_gain» (now «b_sums»)
+        × (length (now «a_sums») ≡ length (now out)) × (length (now «b_sums») ≡ length (now out)) ⌝ }
+    ensures { λ r. ⌜ now (out .exit) ≡ tab (length (now (out .entry)))
+        (λ k. nearestDifference (getD (now («a_sums» .entry)) k 0 * «b_gain») (getD (now («b_sums» .entry)) k 0 * «a_gain») («a_gain» * «b_gain»)) ⌝ }
+{
+    for k in 0..out.len() {
+        out[k] = signed(a_sums[k] * b_gain, b_sums[k] * a_gain, by);
+    }
+}
+
+// The states of both one passes.
+struct Pair {
+    a: State,
+    b: State,
+}
+
+// The next grown row of each. The first recipe has the work cells before `middle`, the second those
+// from there on.
+fn next_rows(
+    at: Pair,
+    pixels: &[u8],
+    a_row: &mut [u64],
+    b_row: &mut [u64],
+    middle: usize,
+    cells: &mut [u64],
+) -> Pair
+    requires { ⌜ Due (at .a) (now pixels) (now «a_row») (take middle (now cells)) × Due (at .b) (now pixels) (now «b_row») (drop middle (now cells))
+        × (middle ≤ length (now cells)) × (middle ≤ 2 ^ 22) ⌝ }
+    ensures { λ r. ⌜ Came (at .a) (r .a) (now (pixels .entry)) (now («a_row» .exit)) (take middle (now (cells .exit)))
+        × Came (at .b) (r .b) (now (pixels .entry)) (now («b_row» .exit)) (drop middle (now (cells .exit))) ⌝ }
+{
+    let z: usize = 0;
+    let end = cells.len();
+    let a = next(at.a, pixels, a_row, &mut cells[z..middle]);
+    let b = next(at.b, pixels, b_row, &mut cells[middle..end]);
+    Pair { a, b }
+}
+
+// What is taken of one recipe's sums: its weight, and the first grown column.
+struct Side {
+    gain: u64,
+    left: usize,
+}
+
+// The differences of all picture rows, from two states whose next grown rows are the first that are
+// taken.
+fn differences(
+    pair: Pair,
+    a: Side,
+    b: Side,
+    by: Divisor,
+    pixels: &[u8],
+    a_row: &mut [u64],
+    b_row: &mut [u64],
+    out: &mut [i16],
+    middle: usize,
+    cells: &mut [u64],
+)
+    requires { ⌜ BothTaken pair a b by middle (now pixels) (now «a_row») (now «b_row») (now cells)
+        × (length (now out) ≡ pair .a .width * pair .a .height) ⌝ }
+    ensures { λ r. let p = pictureOf (pair .a) (now (pixels .entry)) in
+        ⌜ now (out .exit) ≡ places p (differenceOf (recipe (pair .a .filter)) (recipe (pair .b .filter)) p) ⌝ }
+{
+    let width = pair.a.width;
+    let height = pair.a.height;
+    let a_left = a.left;
+    let b_left = b.left;
+    let a_right = a_left + width;
+    let b_right = b_left + width;
+    let mut at = pair;
+    let mut from: usize = 0;
+    for j in 0..height {
+        at = next_rows(at, pixels, a_row, b_row, middle, cells);
+        let to = from + width;
+        difference_row(
+            by,
+            a.gain,
+            b.gain,
+            &a_row[a_left..a_right],
+            &b_row[b_left..b_right],
+            &mut out[from..to],
+        );
+        from = to;
+    }
+}

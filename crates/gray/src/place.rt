@@ -1,0 +1,78 @@
+// The reading at one picture place, without work cells.
+ghost use mathlib.Core.Path.{_≡_};
+ghost use Prim.Native.Nat.{_*_, _^_, _≤_, _<_};
+ghost use Rattle.spec.specs.Recipe.{recipe};
+ghost use Rattle.spec.specs.Picture.{picture};
+ghost use Rattle.spec.specs.Gray.{ratio as ratioOf, reading as readingOf};
+ghost use Rattle.spec.specs.Refusals.{answer, readingChecks};
+ghost use Rattle.gray.specs.Sampled.{chosen, sampleTold, sampledTold};
+ghost use Rattle.gray.specs.Expressed.{expressed};
+use crate::rounding::divisor_of;
+use crate::rounding::rounded;
+use direct::Point;
+use direct::point_sum;
+use filter::measure;
+use spec::Filter;
+
+// What is read: the grey, the exact sum, or the quotient of sum and weight.
+pub enum Quantity {
+    Gray,
+    Sum,
+    Mean,
+}
+
+// What was read, in the same three cases.
+pub enum Sample {
+    Gray(u8),
+    Sum(u64),
+    Mean(f64),
+}
+
+// A reading, or the number of the refusal.
+pub enum Sampled {
+    Of(Sample),
+    Refused(u8),
+}
+
+// The quotient of a sum and a weight that 64-bit floats hold, by one division.
+fn mean(sum: u64, weight: u64) -> f64
+    requires { ⌜ (sum ≤ 2 ^ 53) × (weight ≤ 2 ^ 53) ⌝ }
+    ensures { λ r. ⌜ r ≡ ratioOf sum weight ⌝ }
+{
+    (sum as f64) / (weight as f64)
+}
+
+// A sum as the quantity that is chosen.
+fn express(sum: u64, weight: u64, quantity: Quantity) -> Sample
+    requires { ⌜ (0 < weight) × (weight ≤ 2 ^ 44) × (sum ≤ 255 * weight) ⌝ }
+    ensures { λ r. ⌜ sampleTold r ≡ expressed (chosen quantity) weight sum ⌝ }
+{
+    match quantity {
+        Quantity::Gray => Sample::Gray(rounded(sum, divisor_of(weight)) as u8),
+        Quantity::Sum => Sample::Sum(sum),
+        Quantity::Mean => Sample::Mean(mean(sum, weight)),
+    }
+}
+
+// The reading at a picture place, from the sum of the same-size blur: refused by 1 to 6 and 15.
+pub fn reading(
+    filter: Filter,
+    width: usize,
+    height: usize,
+    pixels: &[u8],
+    column: usize,
+    row: usize,
+    quantity: Quantity,
+) -> Sampled
+    ensures { λ r. let p = picture width height (now (pixels .entry)) in
+        ⌜ sampledTold r ≡ answer (readingChecks (recipe filter) p column row) (readingOf (chosen quantity) (recipe filter) p column row) ⌝ }
+{
+    let point = point_sum(filter, width, height, pixels, column, row);
+    match point {
+        Point::Refused(number) => Sampled::Refused(number),
+        Point::Sum(sum) => {
+            let m = measure(filter);
+            Sampled::Of(express(sum, m.gain, quantity))
+        }
+    }
+}
