@@ -1,10 +1,11 @@
 -- Cells of which the front and the back are lent in turn, each to be worked on.
 -- Assumes nothing.
-use mathlib.Core.Path.{_≡_, sym, ap, ap₂, _∙_}
+use mathlib.Core.Path.{_≡_, ap, ap₂, _∙_}
 use mathlib.Core.List.{List, [], _++_, append-nil}
 use Prim.Native.Nat.{ℕ, _-_, _≤_}
 use native.Mathlib.Nat.{le-of-eq, sub-zero}
-use lib.ListN.{length, take, drop, length-drop, drop-of-length-le}
+use native.Mathlib.Omega.{arith}
+use lib.ListN.{length, take, drop, length-append, length-drop, drop-of-length-le}
 use lib.Seq.{length-take-le, take-at, drop-at, take-all}
 
 module _ (middle : ℕ) (cells : List ℕ) (inside : middle ≤ length cells) where
@@ -46,3 +47,6 @@ module _ (middle : ℕ) (cells : List ℕ) (inside : middle ≤ length cells) wh
 
       pub two-back : drop middle two ≡ zs
       two-back = ap (drop middle) two-is ∙ drop-at ys zs middle size
+
+      pub two-length : length zs ≡ length (drop middle cells) → length two ≡ length cells
+      two-length e = ap length two-is ∙ length-append ys zs ∙ omega (arith, size, e, length-drop middle cells, inside)

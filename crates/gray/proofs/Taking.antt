@@ -4,7 +4,7 @@ use mathlib.Core.Path.{_≡_, refl, ap, ap₂, _∙_}
 use mathlib.Core.Bool.{Bool, true, false, cond}
 use mathlib.Core.List.{List, [], _∷_}
 use Prim.Native.Nat.{ℕ, _+_, _-_, _*_, _/_, _≤_, _<_}
-use native.Mathlib.Nat.{le-trans, le-of-eq, mul-add, mul-one, mul-le-mul-left, mul-left-comm}
+use native.Mathlib.Nat.{le-trans, le-of-eq, mul-add, mul-one, mul-le-mul, mul-le-mul-left, mul-left-comm}
 use native.Mathlib.Decide.{decLt}
 use native.Mathlib.Omega.{arith}
 use lib.Dec.{ltb, eqb}
@@ -19,7 +19,9 @@ use Rattle.spec.specs.Gray.{gray, sameColumn, sameRow, sameSum, sameGray}
 use Rattle.spec.specs.Refusals.{first, tooFewCells, sizeChecks, pictureChecks, startChecks, fullSize}
 use Rattle.laws.proofs.Lists.{length-tab, getD-tab, tab-agree}
 use Rattle.laws.proofs.Exact.{exact-small}
-use Rattle.laws.proofs.Refusals.{none-both, first-then, size-numbered, is-sized}
+use Rattle.laws.proofs.Refusals.{Sized, none-both, first-then, size-numbered, is-sized}
+use Rattle.filter.specs.declared.checks.Measures.{Measures}
+use Rattle.filter.proofs.Refusal.{Known}
 use Rattle.stream.specs.OnePass.{Bytes}
 use Rattle.gray.specs.Division.{Bounded}
 
@@ -100,6 +102,27 @@ stream-enough r p h =
       mul-add W (p .height) (order (r .columns)),
       mul-left-comm W 2 (order (r .columns)),
     )
+
+-- The grown size as it is computed from what measuring the recipe told, and how large it can be.
+pub record Grown (r : Recipe) (p : Picture) (m : Measures) : Type 0 where
+  pub wide : p .width + m .«row_order» ≡ fullWidth r (p .width)
+  pub few : p .width + m .«row_order» ≤ 1279
+  pub tall : p .height + m .«column_order» ≤ 1279
+  pub size : (p .width + m .«row_order») * (p .height + m .«column_order») ≡ fullSize r p
+  pub most : (p .width + m .«row_order») * (p .height + m .«column_order») ≤ 1279 * 1279
+
+pub grown : (r : Recipe) (p : Picture) (m : Measures) → Known r m → Sized (p .width) (p .height) → Grown r p m
+unfolding fullSize fullWidth fullHeight
+grown r p m k s =
+    let few : p .width + m .«row_order» ≤ 1279 = omega (arith, k .rowReach, k .accepted .rowReach, s .width) in
+    let tall : p .height + m .«column_order» ≤ 1279 = omega (arith, k .columnReach, k .accepted .columnReach, s .height) in
+    record {
+      wide = ap (λ n. p .width + n) (k .rowReach);
+      few = few;
+      tall = tall;
+      size = ap₂ (λ x y. (p .width + x) * (p .height + y)) (k .rowReach) (k .columnReach);
+      most = mul-le-mul few tall;
+    }
 
 -- so that a start with so many cells, or more, is accepted with an accepted picture
 pub start-accepted : (r : Recipe) (p : Picture) (cells : ℕ) → first (pictureChecks r p) ≡ 0 → 2 * fullSize r p ≤ cells

@@ -3,7 +3,12 @@ use mathlib.Core.Path.{_≡_}
 use mathlib.Core.List.{List}
 use Prim.Native.Nat.{ℕ, _*_, _^_, _≤_}
 use lib.ListN.{length, take, drop}
-use Rattle.spec.specs.Recipe.{recipe, gain}
+use Rattle.spec.specs.Recipe.{Recipe, recipe, gain}
+use Rattle.spec.specs.Picture.{Picture}
+use Rattle.spec.specs.Refusals as Refusals
+use Rattle.spec.specs.Refusals.{pictureChecks}
+use Rattle.filter.specs.declared.checks.Measures.{Measures}
+use Rattle.filter.proofs.Refusal.{Known}
 use Rattle.gray.specs.declared.rounding.Divisor.{Divisor}
 use Rattle.gray.specs.declared.pair.Pair.{Pair}
 use Rattle.gray.specs.declared.pair.Side.{Side}
@@ -21,3 +26,11 @@ pub record BothTaken (pair : Pair) (a b : Side) (by : Divisor) (middle : ℕ) (p
   pub aGain : a .gain ≡ gain (recipe (pair .a .filter))
   pub bGain : b .gain ≡ gain (recipe (pair .b .filter))
   pub divides : Divides (a .gain * b .gain) by
+
+-- Two recipes and a picture that a difference accepts, with what measuring the recipes told.
+pub record BothAccepted (a b : Recipe) (p : Picture) (m n : Measures) : Type 0 where
+  pub first : Refusals.first (pictureChecks a p) ≡ 0
+  pub second : Refusals.first (pictureChecks b p) ≡ 0
+  pub firstKnown : Known a m
+  pub secondKnown : Known b n
+  pub light : gain a * gain b ≤ 2 ^ 44

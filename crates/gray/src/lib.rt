@@ -6,6 +6,7 @@ mod rounding;
 mod rows;
 mod same;
 
+pub use pair::difference;
 pub use place::Quantity;
 pub use place::Sample;
 pub use place::Sampled;

@@ -1,13 +1,20 @@
 // The difference of two recipes.
 ghost use mathlib.Core.Path.{_≡_};
-ghost use Prim.Native.Nat.{_*_, _^_, _≤_};
+ghost use mathlib.Core.Bool.{_||_};
+ghost use mathlib.Core.List.{[], _∷_};
+ghost use Prim.Native.Nat.{_+_, _*_, _^_, _≤_, _<_};
+ghost use lib.Dec.{ltb};
 ghost use lib.ListN.{length, getD, take, drop};
 ghost use Rattle.spec.specs.Words.{tab};
 ghost use Rattle.spec.specs.Recipe.{recipe};
+ghost use Rattle.spec.specs.Picture.{picture, fullWidth};
+ghost use Rattle.spec.specs.Refusals.{check, first, oddApart, fullSize, sizeChecks};
+ghost use Rattle.filter.proofs.Refusal.{Known};
 ghost use Rattle.spec.specs.Gray.{nearestDifference, places, difference as differenceOf};
 ghost use Rattle.gray.specs.Division.{Divides, Bounded};
 ghost use Rattle.gray.specs.Streaming.{pictureOf, Due, Came};
-ghost use Rattle.gray.specs.Sides.{BothTaken};
+ghost use Rattle.gray.specs.Sides.{BothTaken, BothAccepted};
+ghost use Rattle.gray.specs.Written.{Differenced};
 use crate::rounding::Divisor;
 use crate::rounding::divisor_of;
 use crate::rounding::rounded;
@@ -126,5 +133,170 @@ fn differences(
             &mut out[from..to],
         );
         from = to;
+    }
+}
+
+// The differences of two accepted recipes and an accepted picture, with a row of each grown width to
+// work in. The first recipe has the work cells before `middle`.
+fn run(
+    a: Filter,
+    b: Filter,
+    m: Measures,
+    n: Measures,
+    width: usize,
+    height: usize,
+    pixels: &[u8],
+    a_row: &mut [u64],
+    b_row: &mut [u64],
+    out: &mut [i16],
+    middle: usize,
+    cells: &mut [u64],
+)
+    requires { let p = picture width height (now pixels) in
+        ⌜ BothAccepted (recipe a) (recipe b) p m n × (length (now «a_row») ≡ fullWidth (recipe a) width)
+        × (length (now «b_row») ≡ fullWidth (recipe b) width) × (length (now out) ≡ width * height)
+        × (middle ≡ 2 * fullSize (recipe a) p) × (length (now cells) ≡ 2 * (fullSize (recipe a) p + fullSize (recipe b) p)) ⌝ }
+    ensures { λ r. let p = picture width height (now (pixels .entry)) in
+        ⌜ now (out .exit) ≡ places p (differenceOf (recipe a) (recipe b) p) ⌝ }
+{
+    let z: usize = 0;
+    let end = cells.len();
+    let a_above = m.column_order / 2;
+    let b_above = n.column_order / 2;
+    let first = begin(
+        a,
+        width,
+        height,
+        a_above,
+        pixels,
+        a_row,
+        &mut cells[z..middle],
+    );
+    let second = begin(
+        b,
+        width,
+        height,
+        b_above,
+        pixels,
+        b_row,
+        &mut cells[middle..end],
+    );
+    differences(
+        Pair {
+            a: first,
+            b: second,
+        },
+        Side {
+            gain: m.gain,
+            left: m.row_order / 2,
+        },
+        Side {
+            gain: n.gain,
+            left: n.row_order / 2,
+        },
+        divisor_of(m.gain * n.gain),
+        pixels,
+        a_row,
+        b_row,
+        out,
+        middle,
+        cells,
+    );
+}
+
+// 12 and 13: the reaches differ in parity on an axis, or the product of the weights is too large.
+fn pair_refusal(m: Measures, n: Measures) -> u8
+    requires { ⌜ 0 < m .gain ⌝ }
+    ensures { λ r. ⌜ r ≡ first (check (oddApart (m .«row_order») (n .«row_order») || oddApart (m .«column_order») (n .«column_order»)) 12
+        ∷ check (ltb (2 ^ 44) (m .gain * n .gain)) 13 ∷ []) ⌝ }
+{
+    if m.row_order % 2 != n.row_order % 2 {
+        12
+    } else if m.column_order % 2 != n.column_order % 2 {
+        12
+    } else if HEAVIEST / m.gain < n.gain {
+        13
+    } else {
+        0
+    }
+}
+
+// The checks 6, 7, 8, 12 and 13, and the differences where none of them holds.
+fn sized(
+    a: Filter,
+    b: Filter,
+    m: Measures,
+    n: Measures,
+    width: usize,
+    height: usize,
+    pixels: &[u8],
+    out: &mut [i16],
+    cells: &mut [u64],
+) -> u8
+    requires { ⌜ Known (recipe a) m × Known (recipe b) n × (first (sizeChecks (recipe b) width height) ≡ 0) ⌝ }
+    ensures { λ r. let p = picture width height (now (pixels .entry)) in
+        ⌜ Differenced (recipe a) (recipe b) p (now (out .entry)) (now (cells .entry)) r (now (out .exit)) (now (cells .exit)) ⌝ }
+{
+    let size = width * height;
+    if pixels.len() != size {
+        return 6;
+    }
+    if out.len() != size {
+        return 7;
+    }
+    let a_width = width + m.row_order;
+    let b_width = width + n.row_order;
+    let middle = 2 * (a_width * (height + m.column_order));
+    let needed = middle + 2 * (b_width * (height + n.column_order));
+    if cells.len() < needed {
+        return 8;
+    }
+    let number = pair_refusal(m, n);
+    if number != 0 {
+        return number;
+    }
+    let mut a_row = [0u64; 1279];
+    let mut b_row = [0u64; 1279];
+    let z: usize = 0;
+    run(
+        a,
+        b,
+        m,
+        n,
+        width,
+        height,
+        pixels,
+        &mut a_row[z..a_width],
+        &mut b_row[z..b_width],
+        out,
+        middle,
+        &mut cells[z..needed],
+    );
+    0
+}
+
+// The difference of two recipes at each place of a picture: refused by the first's 1 to 4, the second's,
+// then 5, 6, 7, 8, 12, 13. The work cells are free afterwards.
+pub fn difference(
+    a: Filter,
+    b: Filter,
+    width: usize,
+    height: usize,
+    pixels: &[u8],
+    out: &mut [i16],
+    cells: &mut [u64],
+) -> u8
+    ensures { λ r. let p = picture width height (now (pixels .entry)) in
+        ⌜ Differenced (recipe a) (recipe b) p (now (out .entry)) (now (cells .entry)) r (now (out .exit)) (now (cells .exit)) ⌝ }
+{
+    let m = measure(a);
+    let number = m.refusal;
+    if number != 0 {
+        return number;
+    }
+    let answer = full_size(b, width, height);
+    match answer {
+        FullSize::Refused(number) => number,
+        FullSize::Sides { .. } => sized(a, b, m, measure(b), width, height, pixels, out, cells),
     }
 }

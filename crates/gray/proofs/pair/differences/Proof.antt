@@ -7,7 +7,7 @@ use native.Mathlib.Omega.{arith}
 use borrow.Author.Needs.{needs}
 use lib.IntN.{pos}
 use lib.ListN.{length, getD, take, drop}
-use Rattle.spec.specs.Recipe.{recipe, order, gain}
+use Rattle.spec.specs.Recipe.{recipe, order}
 use Rattle.spec.specs.Picture.{Picture, picture, fullWidth, fullHeight, fullRow}
 use Rattle.spec.specs.Gray.{places, sameRow, sameSum, difference}
 use Rattle.laws.proofs.Numbers.{row-fits}

@@ -1,10 +1,10 @@
 -- `gray::pair::next_rows` meets its contract: each recipe's next grown row comes on its own part of the cells.
 -- Assumes nothing.
 use mathlib.Core.Path.{_≡_, sym, ap, subst, _∙_}
-use Prim.Native.Nat.{_-_, _*_}
+use Prim.Native.Nat.{_-_}
 use native.Mathlib.Omega.{arith}
 use borrow.Author.Needs.{needs}
-use lib.ListN.{length, take, drop}
+use lib.ListN.{length}
 use Rattle.gray.specs.Streaming.{Due, Came}
 use Rattle.gray.proofs.Parts.{front-is, front-length, back-is, two-front, two-back}
 use Rattle.gray.proofs.pair.next_rows.Statement.{statement}

@@ -1,6 +1,6 @@
 -- `gray::same::sized` meets its contract, check by check, and then by that of `run`.
 -- Assumes nothing.
-use mathlib.Core.Path.{_≡_, sym, ap, ap₂, _∙_}
+use mathlib.Core.Path.{_≡_, sym, ap, _∙_}
 use mathlib.Core.List.{[]}
 use Prim.Native.Nat.{_+_, _-_, _*_, _≤_}
 use native.Mathlib.Nat.{mul-le-mul, sub-zero}
@@ -9,43 +9,30 @@ use borrow.Author.Needs.{needs}
 use lib.ListN.{length, take, length-take}
 use lib.Seq.{length-take-le}
 use Rattle.spec.specs.Recipe.{recipe}
-use Rattle.spec.specs.Picture.{picture, fullWidth, fullHeight}
+use Rattle.spec.specs.Picture.{picture}
 use Rattle.spec.specs.Refusals.{first, fullSize}
 use Rattle.laws.proofs.Slices.{front-lent}
-use Rattle.laws.proofs.Refusals.{is-sized, picture-passed}
+use Rattle.laws.proofs.Refusals.{Sized, is-sized, picture-passed}
+use Rattle.gray.proofs.Taking.{Grown, grown}
 use Rattle.gray.proofs.Answering.{written-not, written-all, by-output, by-cells, by-rest, blur-pixels, blur-rest}
 use Rattle.gray.proofs.same.sized.Statement.{statement}
 use Rattle.gray.proofs.same.sized.Tie as tie
 
--- the sizes that are computed
-sizes : (c : tie.Start) → let args = c .args in
-    record {
-      size : args .width * args .height ≤ 1024 * 1024;
-      wide : args .width + args .m .«row_order» ≡ fullWidth (recipe (args .filter)) (args .width);
-      few : fullWidth (recipe (args .filter)) (args .width) ≤ 1279;
-      tall : args .height + args .m .«column_order» ≤ 1279;
-      product : (args .width + args .m .«row_order») * (args .height + args .m .«column_order») ≤ 1279 * 1279;
-      needed : 2 * ((args .width + args .m .«row_order») * (args .height + args .m .«column_order»))
-          ≡ 2 * fullSize (recipe (args .filter)) (picture (args .width) (args .height) (args .pixels .now));
-    }
-unfolding fullSize fullWidth fullHeight
-sizes c =
-    let args = c .args in
-    let k = c .pre .0 in
-    let s = is-sized _ (args .width) (args .height) (c .pre .1) .1 in
-    let wide : args .width + args .m .«row_order» ≤ 1279 = omega (arith, k .rowReach, k .accepted .rowReach, s .width) in
-    let tall : args .height + args .m .«column_order» ≤ 1279 = omega (arith, k .columnReach, k .accepted .columnReach, s .height) in
-    record {
-      size = mul-le-mul (s .width .1) (s .height .1);
-      wide = ap (λ n. args .width + n) (k .rowReach);
-      few = omega (arith, wide, k .rowReach);
-      tall = tall;
-      product = mul-le-mul wide tall;
-      needed = ap₂ (λ m n. 2 * ((args .width + m) * (args .height + n))) (k .rowReach) (k .columnReach);
-    }
+-- the sides, and the sizes that are computed
+sides : (c : tie.Start) → Sized (c .args .width) (c .args .height)
+sides c = is-sized _ (c .args .width) (c .args .height) (c .pre .1) .1
+
+sizes : (c : tie.Start) → Grown (recipe (c .args .filter)) (picture (c .args .width) (c .args .height) (c .args .pixels .now)) (c .args .m)
+sizes c = grown _ _ _ (c .pre .0) (sides c)
+
+-- the needed cells
+needed-is : (c : tie.Start) → let args = c .args in
+    2 * ((args .width + args .m .«row_order») * (args .height + args .m .«column_order»))
+    ≡ 2 * fullSize (recipe (args .filter)) (picture (args .width) (args .height) (args .pixels .now))
+needed-is c = ap (λ n. 2 * n) (sizes c .size)
 
 mul-size : tie.Need-mul-size
-mul-size c = omega (arith, sizes (c .before .before .before) .size)
+mul-size c = let s = sides (c .before .before .before) in omega (arith, mul-le-mul (s .width .1) (s .height .1))
 
 returns : tie.Need-returns
 returns c =
@@ -58,23 +45,23 @@ returns-2 c =
     written-not _ _ _ _ _ 7 (blur-rest _ _ _ _ (start .pre .1) (c .before .if1 .left) ∙ by-output _ _ _ _ _ (c .if2 .taken)) (λ e. omega arith)
 
 add-full-width : tie.Need-add-full-width
-add-full-width c = let s = sizes (c .before .before .before .before .before .before) in omega (arith, s .wide, s .few)
+add-full-width c = omega (arith, sizes (c .before .before .before .before .before .before) .few)
 
 add-needed : tie.Need-add-needed
 add-needed c = omega (arith, sizes (c .before .before .before .before .before .before .before) .tall)
 
 mul-needed : tie.Need-mul-needed
-mul-needed c = omega (arith, sizes (c .before .before .before .before .before .before .before) .product)
+mul-needed c = omega (arith, sizes (c .before .before .before .before .before .before .before) .most)
 
 mul-needed-2 : tie.Need-mul-needed-2
-mul-needed-2 c = omega (arith, sizes (c .before .before .before .before .before .before .before) .product)
+mul-needed-2 c = omega (arith, sizes (c .before .before .before .before .before .before .before) .most)
 
 returns-3 : tie.Need-returns-3
 returns-3 c =
     let start = c .before .before .before .before .before .before .before .before in
     let out = c .before .before .before in
     written-not _ _ _ _ _ 8
-    (blur-rest _ _ _ _ (start .pre .1) (out .before .if1 .left) ∙ by-cells _ _ _ _ _ (out .if2 .left) (omega (arith, c .if3 .taken, sizes start .needed))) (λ e. omega arith)
+    (blur-rest _ _ _ _ (start .pre .1) (out .before .if1 .left) ∙ by-cells _ _ _ _ _ (out .if2 .left) (omega (arith, c .if3 .taken, sizes start .size))) (λ e. omega arith)
 
 mul-row : tie.Need-mul-row
 mul-row c = search needs
@@ -86,7 +73,7 @@ part-row-start : tie.Need-part-row-start
 part-row-start c = search needs
 
 part-row-end : tie.Need-part-row-end
-part-row-end c = let s = sizes (c .before .before .before .before .before .before .before .before) in omega (arith, s .wide, s .few)
+part-row-end c = omega (arith, sizes (c .before .before .before .before .before .before .before .before) .few)
 
 mul-run : tie.Need-mul-run
 mul-run c = search needs
@@ -109,7 +96,7 @@ part-long c =
     let args = start .args in
     let needed = 2 * ((args .width + args .m .«row_order») * (args .height + args .m .«column_order»)) in
     let inside : needed - 0 ≤ length (args .cells .now) = omega (arith, c .if3 .left) in
-    length-take-le (needed - 0) (args .cells .now) inside ∙ sub-zero needed ∙ sizes start .needed
+    length-take-le (needed - 0) (args .cells .now) inside ∙ sub-zero needed ∙ needed-is start
 
 run-requires : tie.Need-run-requires
 run-requires c κs =
@@ -137,9 +124,9 @@ returns-4 c =
     let out = c .before .before .before .before .before .before .before .before .before .before .before .before in
     let s = sizes start in
     written-all _ _ _ _ _
-    (blur-rest _ _ _ _ (start .pre .1) (out .before .if1 .left) ∙ by-rest _ _ _ _ [] (out .if2 .left) (omega (arith, enough .if3 .left, s .needed)))
+    (blur-rest _ _ _ _ (start .pre .1) (out .before .if1 .left) ∙ by-rest _ _ _ _ [] (out .if2 .left) (omega (arith, enough .if3 .left, needed-is start)))
     _ _ (run .ensures)
-    (front-lent _ _ (s .needed) (run .last .1 .1 .1 .1 .1 .1 .1 .0) (start .args .cells .now) (run .kept .1 .1 .1 .1 .1 .1 .1 .0 ∙ part-long enough ∙ sym (s .needed)))
+    (front-lent _ _ (needed-is start) (run .last .1 .1 .1 .1 .1 .1 .1 .0) (start .args .cells .now) (run .kept .1 .1 .1 .1 .1 .1 .1 .0 ∙ part-long enough ∙ sym (needed-is start)))
     (same-length-2 c)
 
 pub sized-spec : {M : Type 1} → statement M
