@@ -8,19 +8,26 @@ ghost use Rattle.spec.specs.Words.{part};
 ghost use Rattle.spec.specs.Recipe.{recipe, order, gain};
 ghost use Rattle.spec.specs.Picture.{fullWidth, fullHeight};
 ghost use Rattle.spec.specs.Stream.{streamCells};
-ghost use Rattle.spec.specs.Gray.{variance};
+ghost use Rattle.spec.specs.Gray.{variance, sameSum, sameGray, sameQuotient, reading};
 ghost use Rattle.spec.specs.Same.{equivalent};
-ghost use Rattle.spec.specs.Refusals.{first, lent, recipeChecks, sizeChecks, cellChecks, compareChecks};
+ghost use Rattle.spec.specs.Refusals.{first, lent, recipeChecks, sizeChecks, cellChecks, compareChecks, readingChecks};
 ghost use Rattle.spec.specs.Picture.{picture};
 ghost use Rattle.filter.specs.Filled.{Filled};
 ghost use Rattle.direct.specs.Formed.{Formed};
 ghost use Rattle.passes.specs.Passed.{Passed};
 ghost use Rattle.stream.specs.Calls.{start, push, drain};
+ghost use Rattle.gray.specs.Rounded.{Rounded};
+ghost use Rattle.gray.specs.Written.{Blurred, Differenced};
+ghost use Rattle.gray.specs.Sampled.{chosen};
 ghost use Rattle.bore_c.specs.Given.{given, givenState, began, called};
+ghost use Rattle.bore_c.specs.Placed.{Placed};
 use equivalence::Comparison;
 use filter::Card;
 use filter::Cells;
 use filter::FullSize;
+use gray::Quantity;
+use gray::Sample;
+use gray::Sampled;
 use spec::Cascade;
 use spec::Filter;
 use stream::State;
@@ -419,4 +426,210 @@ pub extern "C" fn bore_drain(
     );
     *count = drained.count;
     drained.refusal
+}
+
+// The greys of a row of sums: 1 to 4, 7, 11.
+#[no_mangle]
+pub extern "C" fn bore_round(
+    row_count: u8,
+    rows: &[u8; 48],
+    column_count: u8,
+    columns: &[u8; 48],
+    sums: &[u64],
+    out: &mut [u8],
+) -> u8
+    ensures { λ r. let g = given «row_count» (now (rows .entry)) «column_count» (now (columns .entry)) in
+        ⌜ Rounded g (now (sums .entry)) (now (out .entry)) r (now (out .exit)) ⌝ }
+{
+    gray::round(filter_of(row_count, rows, column_count, columns), sums, out)
+}
+
+// The blur of a picture in its own size: 1 to 8.
+#[no_mangle]
+pub extern "C" fn bore_blur(
+    row_count: u8,
+    rows: &[u8; 48],
+    column_count: u8,
+    columns: &[u8; 48],
+    width: usize,
+    height: usize,
+    pixels: &[u8],
+    out: &mut [u8],
+    cells: &mut [u64],
+) -> u8
+    ensures { λ r. let g = given «row_count» (now (rows .entry)) «column_count» (now (columns .entry)) in
+        ⌜ Blurred g (picture width height (now (pixels .entry))) (now (out .entry)) (now (cells .entry)) r (now (out .exit)) (now (cells .exit)) ⌝ }
+{
+    let for_blur = filter_of(row_count, rows, column_count, columns);
+    gray::blur(for_blur, width, height, pixels, out, cells)
+}
+
+// The difference of two recipes at each picture place: the first's 1 to 4, then the second's 1 to 4, then
+// 5 to 8, 12, 13.
+#[no_mangle]
+pub extern "C" fn bore_difference(
+    a_row_count: u8,
+    a_rows: &[u8; 48],
+    a_column_count: u8,
+    a_columns: &[u8; 48],
+    b_row_count: u8,
+    b_rows: &[u8; 48],
+    b_column_count: u8,
+    b_columns: &[u8; 48],
+    width: usize,
+    height: usize,
+    pixels: &[u8],
+    out: &mut [i16],
+    cells: &mut [u64],
+) -> u8
+    ensures { λ r. let a = given «a_row_count» (now («a_rows» .entry)) «a_column_count» (now («a_columns» .entry)) in
+        let b = given «b_row_count» (now («b_rows» .entry)) «b_column_count» (now («b_columns» .entry)) in
+        ⌜ Differenced a b (picture width height (now (pixels .entry))) (now (out .entry)) (now (cells .entry)) r (now (out .exit)) (now (cells .exit)) ⌝ }
+{
+    let a = filter_of(a_row_count, a_rows, a_column_count, a_columns);
+    let b = filter_of(b_row_count, b_rows, b_column_count, b_columns);
+    gray::difference(a, b, width, height, pixels, out, cells)
+}
+
+// The reading at a picture place, written to the place of the quantity that is chosen. The other two
+// places stay.
+fn sample_into(
+    filter: Filter,
+    width: usize,
+    height: usize,
+    pixels: &[u8],
+    column: usize,
+    row: usize,
+    quantity: Quantity,
+    gray: &mut u8,
+    sum: &mut u64,
+    mean: &mut f64,
+) -> u8
+    ensures { λ r. let g = recipe filter in let p = picture width height (now (pixels .entry)) in
+        ⌜ Placed (readingChecks g p column row) (reading (chosen quantity) g p column row) (now (gray .entry)) (now (sum .entry)) (now (mean .entry))
+        r (now (gray .exit)) (now (sum .exit)) (now (mean .exit)) ⌝ }
+{
+    let answer = gray::reading(filter, width, height, pixels, column, row, quantity);
+    match answer {
+        Sampled::Refused(number) => number,
+        Sampled::Of(sample) => match sample {
+            Sample::Gray(value) => {
+                *gray = value;
+                0
+            }
+            Sample::Sum(value) => {
+                *sum = value;
+                0
+            }
+            Sample::Mean(value) => {
+                *mean = value;
+                0
+            }
+        },
+    }
+}
+
+// The grey at one picture place: 1 to 6, 15.
+#[no_mangle]
+pub extern "C" fn bore_sample_gray(
+    row_count: u8,
+    rows: &[u8; 48],
+    column_count: u8,
+    columns: &[u8; 48],
+    width: usize,
+    height: usize,
+    pixels: &[u8],
+    column: usize,
+    row: usize,
+    gray: &mut u8,
+) -> u8
+    ensures { λ r. let g = given «row_count» (now (rows .entry)) «column_count» (now (columns .entry)) in
+        let p = picture width height (now (pixels .entry)) in let cs = readingChecks g p column row in
+        ⌜ (r ≡ first cs) × (now (gray .exit) ≡ lent cs (sameGray g p column row) (now (gray .entry))) ⌝ }
+{
+    let for_gray = filter_of(row_count, rows, column_count, columns);
+    let mut sum: u64 = 0;
+    let mut mean: f64 = 0.0;
+    sample_into(
+        for_gray,
+        width,
+        height,
+        pixels,
+        column,
+        row,
+        Quantity::Gray,
+        gray,
+        &mut sum,
+        &mut mean,
+    )
+}
+
+// The exact sum at one picture place: 1 to 6, 15.
+#[no_mangle]
+pub extern "C" fn bore_sample_sum(
+    row_count: u8,
+    rows: &[u8; 48],
+    column_count: u8,
+    columns: &[u8; 48],
+    width: usize,
+    height: usize,
+    pixels: &[u8],
+    column: usize,
+    row: usize,
+    sum: &mut u64,
+) -> u8
+    ensures { λ r. let g = given «row_count» (now (rows .entry)) «column_count» (now (columns .entry)) in
+        let p = picture width height (now (pixels .entry)) in let cs = readingChecks g p column row in
+        ⌜ (r ≡ first cs) × (now (sum .exit) ≡ lent cs (sameSum g p column row) (now (sum .entry))) ⌝ }
+{
+    let for_sum = filter_of(row_count, rows, column_count, columns);
+    let mut gray: u8 = 0;
+    let mut mean: f64 = 0.0;
+    sample_into(
+        for_sum,
+        width,
+        height,
+        pixels,
+        column,
+        row,
+        Quantity::Sum,
+        &mut gray,
+        sum,
+        &mut mean,
+    )
+}
+
+// The quotient of sum and weight at one picture place: 1 to 6, 15.
+#[no_mangle]
+pub extern "C" fn bore_sample_mean(
+    row_count: u8,
+    rows: &[u8; 48],
+    column_count: u8,
+    columns: &[u8; 48],
+    width: usize,
+    height: usize,
+    pixels: &[u8],
+    column: usize,
+    row: usize,
+    mean: &mut f64,
+) -> u8
+    ensures { λ r. let g = given «row_count» (now (rows .entry)) «column_count» (now (columns .entry)) in
+        let p = picture width height (now (pixels .entry)) in let cs = readingChecks g p column row in
+        ⌜ (r ≡ first cs) × (now (mean .exit) ≡ lent cs (sameQuotient g p column row) (now (mean .entry))) ⌝ }
+{
+    let for_mean = filter_of(row_count, rows, column_count, columns);
+    let mut gray: u8 = 0;
+    let mut sum: u64 = 0;
+    sample_into(
+        for_mean,
+        width,
+        height,
+        pixels,
+        column,
+        row,
+        Quantity::Mean,
+        &mut gray,
+        &mut sum,
+        mean,
+    )
 }
