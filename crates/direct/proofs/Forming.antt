@@ -13,10 +13,11 @@ use Rattle.spec.specs.Words.{product, somewhere, total}
 use Rattle.spec.specs.Recipe.{Recipe, kernel, order, gain}
 use Rattle.spec.specs.Picture.{Picture, exact, fullWidth, fullHeight, full}
 use Rattle.spec.specs.Refusals.{first, check, alone, tooLong, zeroWidth, tooFar, tooHeavy, otherPixels, otherOutput, fullSize, recipeChecks, sizeChecks, pictureChecks, kernelChecks, directChecks}
+use Rattle.laws.proofs.Numbers.{neither}
 use Rattle.laws.proofs.Lists.{product-zero}
 use Rattle.laws.proofs.Kernels.{kernel-sum, length-kernel}
 use Rattle.laws.proofs.Exact.{rows-pos, columns-pos}
-use Rattle.laws.proofs.Refusals.{Accepted, AcceptedPicture, as-stated, not-stated, picture-sides, picture-pixels, picture-rest, first-then, first-none, none-both, neither, recipe-numbered, picture-numbered, is-accepted-picture, same-length-so, lent-refused, lent-accepted}
+use Rattle.laws.proofs.Refusals.{Accepted, AcceptedPicture, as-stated, not-stated, picture-sides, picture-pixels, picture-rest, first-then, first-none, none-both, recipe-numbered, picture-numbered, is-accepted-picture, same-length-so, lent-refused, lent-accepted}
 use Rattle.filter.specs.Filled.{Filled}
 use Rattle.direct.specs.Formed.{checks, Formed}
 use Rattle.direct.specs.Windows.{window, windows, weight, Ready}

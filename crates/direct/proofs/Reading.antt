@@ -10,7 +10,8 @@ use Rattle.spec.specs.Recipe.{Recipe, order}
 use Rattle.spec.specs.Picture.{Picture, exact}
 use Rattle.spec.specs.Gray.{sameColumn, sameRow, sameSum}
 use Rattle.spec.specs.Refusals.{first, check, accepted, answer, outside, recipeChecks, sizeChecks, pictureChecks, readingChecks}
-use Rattle.laws.proofs.Refusals.{AcceptedPicture, both, answer-accepted, first-none, none-both, recipe-numbered, size-numbered, picture-numbered, picture-rest, is-accepted-picture}
+use Rattle.laws.proofs.Numbers.{both}
+use Rattle.laws.proofs.Refusals.{AcceptedPicture, answer-accepted, first-none, none-both, recipe-numbered, size-numbered, picture-numbered, picture-rest, is-accepted-picture}
 
 -- A call to which none of 1 to 6 applies.
 module _ (r : Recipe) (p : Picture) (i j : ℕ) (none : first (sizeChecks r (p .width) (p .height)) ≡ 0) (size : length (p .pixels) ≡ p .width * p .height) where

@@ -11,8 +11,9 @@ use Rattle.spec.specs.Recipe.{Recipe, recipe, order, gain}
 use Rattle.spec.specs.Picture.{Sides, fullSides, fullWidth, fullHeight, exact, fullRow}
 use Rattle.spec.specs.Same.{sameCounts, equivalent}
 use Rattle.spec.specs.Refusals.{Answer, first, accepted, recipeChecks, sizeChecks, compareChecks, badSides, badSide}
+use Rattle.laws.proofs.Numbers.{both}
 use Rattle.laws.proofs.Lists.{getD-tab}
-use Rattle.laws.proofs.Refusals.{both, first-rest, first-then, recipe-numbered, picture-passed, answer-accepted, is-accepted}
+use Rattle.laws.proofs.Refusals.{first-rest, first-then, recipe-numbered, picture-passed, answer-accepted, is-accepted}
 use Rattle.laws.proofs.Counts.{same-balanced, balanced-same}
 use Rattle.laws.proofs.Sameness.{dot, counts-gain, counts-width, counts-height, counts-row, sums-counts}
 use Rattle.stream.specs.OnePass.{Bytes}

@@ -90,7 +90,7 @@ module _ (f : Filter) (p : Picture) (shown : AcceptedWith (recipe f) p) (j : ℕ
   passed-only : (row : List ℕ) → PassedRow f p j row → row ≡ fullRow r p j
   passed-only row y =
       y .place
-      ∙ ap (rowIn r p j) (y .contract .sums ∙ lent-accepted (passAsked r p (y .out) (y .cells)) (full r p) (y .out) (sym (y .contract .answer)))
+      ∙ ap (rowIn r p j) (y .contract .output ∙ lent-accepted (passAsked r p (y .out) (y .cells)) (full r p) (y .out) (sym (y .contract .answer)))
       ∙ row-of-full (y .inside)
 
   passCall : List Check
@@ -107,7 +107,7 @@ module _ (f : Filter) (p : Picture) (shown : AcceptedWith (recipe f) p) (j : ℕ
         newCells = zeros (fullSize r p);
         contract = record {
           answer = sym asked;
-          sums = sym (lent-accepted passCall (full r p) (zeros (fullSize r p)) asked);
+          output = sym (lent-accepted passCall (full r p) (zeros (fullSize r p)) asked);
           work = sym (lent-accepted passCall _ (zeros (fullSize r p)) asked ∙ take-append-drop (fullSize r p) (zeros (fullSize r p)));
           count = refl;
         };

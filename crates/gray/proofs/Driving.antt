@@ -14,21 +14,15 @@ use Rattle.spec.specs.Recipe.{recipe, order}
 use Rattle.spec.specs.Picture.{Picture, picture, fullWidth, fullHeight, fullRow}
 use Rattle.spec.specs.Refusals.{check, first, either, otherPixels, otherOutput, sizeChecks, startChecks}
 use Rattle.laws.proofs.Lists.{getD-tab, length-part, tab-more}
-use Rattle.laws.proofs.Refusals.{AcceptedPicture, as-stated, lent-accepted, none-both, size-numbered, is-sized}
+use Rattle.laws.proofs.Refusals.{AcceptedPicture, as-stated, none-both, size-numbered, is-sized}
 use Rattle.stream.specs.declared.calls.State.{State}
 use Rattle.stream.specs.declared.calls.Started.{Started}
 use Rattle.stream.specs.declared.calls.Stepped.{Stepped}
 use Rattle.stream.specs.Calls.{Began, began, start, started, Called, called, next}
 use Rattle.stream.specs.Runs.{Call, aRow, aDrain, answerOf, Yielded, run, Carried, carried, rowOf, rows, outputs, pictureRow}
 use Rattle.stream.specs.OnePass.{Bytes, acceptedCalls, left}
-use Rattle.stream.proofs.Run.{one-pass, first-rows, next-state, carried-append, run-append, rows-append, outputs-append}
+use Rattle.stream.proofs.Run.{one-pass, first-rows, accepted-start, length-outputs, next-state, carried-append, run-append, rows-append, outputs-append}
 use Rattle.gray.specs.Streaming.{Streamed, Due, Came, Taken}
-
--- as many outputs as accepted calls
-length-outputs : (ys : List Yielded) → length (outputs ys) ≡ length ys
-unfolding outputs
-length-outputs [] = refl
-length-outputs (y ∷ ys) = ap suc (length-outputs ys)
 
 module _ (f : Filter) (p : Picture) where
   abbrev at : ℕ → State
@@ -155,17 +149,12 @@ module _ (f : Filter) (p : Picture) where
           )
 
   -- the state and the cells of an accepted start
-  accepted-start : (cells : List ℕ) → first (startChecks (recipe f) (p .width) (p .height) (length cells)) ≡ 0
-      → start f (p .width) (p .height) cells ≡ started f (p .width) (p .height) cells
-  unfolding start
-  accepted-start cells z = lent-accepted _ _ _ z
-
   pub begun : (cells : List ℕ) (a : Started) (held : List ℕ) → first (startChecks (recipe f) (p .width) (p .height) (length cells)) ≡ 0
       → began a held ≡ start f (p .width) (p .height) cells → Streamed f p 0 (a .state) held
   unfolding began started startChecks acceptedCalls run left carried rows tab
   begun cells a held z e =
       let none : min 0 (p .height) ≡ 0 = omega arith in
-      let is = accepted-start cells z in
+      let is = accepted-start f p cells z in
       record {
         given = cells;
         calls = [];

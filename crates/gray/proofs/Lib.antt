@@ -1,5 +1,5 @@
 pub mod Dividing
-pub mod Greys
+pub mod Grays
 pub mod Driving
 pub mod Taking
 pub mod Answering

@@ -1,11 +1,11 @@
 -- The reading at a picture place, from what is told of the sum there: the same refusal, or how large the sum can be, and what is read from it.
 -- Assumes nothing.
-use mathlib.Core.Path.{_≡_, refl, sym, ap, ap₂, _∙_}
+use mathlib.Core.Path.{_≡_, sym, ap, ap₂, _∙_}
 use Prim.Native.Nat.{ℕ, _*_, _^_, _≤_, _<_}
 use native.Mathlib.Omega.{arith}
 use Rattle.spec.specs.Recipe.{Recipe, gain}
 use Rattle.spec.specs.Picture.{Picture}
-use Rattle.spec.specs.Gray.{Reading, Choice, asGray, asSum, asQuotient, sameColumn, sameRow, sameSum, sameGray, sameQuotient, reading}
+use Rattle.spec.specs.Gray.{Reading, Choice, sameColumn, sameRow, sameSum, expressed, reading}
 use Rattle.spec.specs.Refusals.{accepted, refused, first, answer, readingChecks}
 use Rattle.laws.proofs.Exact.{exact-small}
 use Rattle.laws.proofs.Refusals.{read-refused, read-accepted, answer-refused, answer-accepted}
@@ -17,14 +17,6 @@ use Rattle.direct.specs.declared.points.Point.the-variants as point
 use Rattle.direct.specs.Answers.{pointTold}
 use Rattle.direct.proofs.Reading.{is-inside}
 use Rattle.stream.specs.OnePass.{Bytes}
-use Rattle.gray.specs.Expressed.{expressed}
-
--- each choice is read from the weight and the sum
-by-choice : (c : Choice) (r : Recipe) (p : Picture) (i j : ℕ) → expressed c (gain r) (sameSum r p i j) ≡ reading c r p i j
-unfolding expressed reading sameGray sameQuotient
-by-choice asGray r p i j = refl
-by-choice asSum r p i j = refl
-by-choice asQuotient r p i j = refl
 
 module _ (r : Recipe) (p : Picture) (i j : ℕ) (x : Point) (told : pointTold x ≡ answer (readingChecks r p i j) (sameSum r p i j)) where
   -- the sum is refused
@@ -50,6 +42,7 @@ module _ (r : Recipe) (p : Picture) (i j : ℕ) (x : Point) (told : pointTold x 
         (omega (arith, k .weight, k .accepted .notZero), omega (arith, k .weight, k .accepted .light), omega (arith, k .weight, sum .1, most))
 
     pub is-read : (c : Choice) (v : Reading) → v ≡ expressed c (m .gain) s → accepted v ≡ answer (readingChecks r p i j) (reading c r p i j)
+    unfolding reading
     is-read c v h =
-        ap accepted (h ∙ ap₂ (expressed c) (measures .weight) (sum .1) ∙ by-choice c r p i j)
+        ap accepted (h ∙ ap₂ (expressed c) (measures .weight) (sum .1))
         ∙ sym (answer-accepted _ (reading c r p i j) (sum .0))

@@ -19,7 +19,7 @@ use Rattle.spec.specs.Gray.{gray, sameColumn, sameRow, sameSum, sameGray}
 use Rattle.spec.specs.Refusals.{first, tooFewCells, sizeChecks, pictureChecks, startChecks, fullSize}
 use Rattle.laws.proofs.Lists.{length-tab, getD-tab, tab-agree}
 use Rattle.laws.proofs.Exact.{exact-small}
-use Rattle.laws.proofs.Refusals.{Sized, none-both, first-then, size-numbered, is-sized}
+use Rattle.laws.proofs.Refusals.{Sized, grown-most, none-both, first-then, size-numbered, is-sized}
 use Rattle.filter.specs.declared.checks.Measures.{Measures}
 use Rattle.filter.proofs.Refusal.{Known}
 use Rattle.stream.specs.OnePass.{Bytes}
@@ -34,40 +34,40 @@ module _ (r : Recipe) (p : Picture) (j : ℕ) (row : List ℕ) (is : row ≡ ful
 
   module _ (left n : ℕ) (half : left ≡ order (r .rows) / 2) (many : n ≡ p .width) where
     -- the sums from the left place on, as many as the picture is wide
-    abbrev middle : List ℕ
-    middle = take n (drop left row)
+    abbrev taken : List ℕ
+    taken = take n (drop left row)
 
-    pub middle-length : length middle ≡ p .width
+    pub taken-length : length taken ≡ p .width
     unfolding fullWidth
-    middle-length = length-take-le n (drop left row) (omega (arith, length-drop left row, long)) ∙ many
+    taken-length = length-take-le n (drop left row) (omega (arith, length-drop left row, long)) ∙ many
 
-    pub middle-at : (i : ℕ) → i < p .width → getD middle i 0 ≡ sameSum r p i j
+    pub taken-at : (i : ℕ) → i < p .width → getD taken i 0 ≡ sameSum r p i j
     unfolding fullRow fullWidth sameSum sameColumn
-    middle-at i h =
+    taken-at i h =
         let place : left + i ≡ i + order (r .rows) / 2 = omega arith in
         getD-take n (drop left row) i 0 (omega arith)
         ∙ getD-drop left row i 0
         ∙ ap₂ (λ l k. getD l k 0) is place
         ∙ getD-tab (p .width + order (r .rows)) (λ k. exact r p k (sameRow r j)) (i + order (r .rows) / 2) 0 (omega arith)
 
-    pub middle-bounded : Bytes p → Bounded (gain r) middle
+    pub taken-bounded : Bytes p → Bounded (gain r) taken
     unfolding sameSum
-    middle-bounded small i =
+    taken-bounded small i =
         elim (decLt i (p .width)) [
-          | yes h ↦ le-trans (le-of-eq (middle-at i h)) (exact-small r p small (sameColumn r i) (sameRow r j))
-          | no h ↦ omega (arith, List·getD-eq-default middle 0 (past i (omega arith)))
+          | yes h ↦ le-trans (le-of-eq (taken-at i h)) (exact-small r p small (sameColumn r i) (sameRow r j))
+          | no h ↦ omega (arith, List·getD-eq-default taken 0 (past i (omega arith)))
         ]
       where
-        past : (i : ℕ) → p .width ≤ i → length middle ≤ i
-        past i h = omega (arith, middle-length)
+        past : (i : ℕ) → p .width ≤ i → length taken ≤ i
+        past i h = omega (arith, taken-length)
 
     -- their greys
-    pub middle-greys : (weight m : ℕ) → weight ≡ gain r → m ≡ p .width
-        → tab m (λ i. gray weight (getD middle i 0)) ≡ tab (p .width) (λ i. sameGray r p i j)
+    pub taken-grays : (weight m : ℕ) → weight ≡ gain r → m ≡ p .width
+        → tab m (λ i. gray weight (getD taken i 0)) ≡ tab (p .width) (λ i. sameGray r p i j)
     unfolding sameGray
-    middle-greys weight m w e =
-        ap (λ k. tab k (λ i. gray weight (getD middle i 0))) e
-        ∙ tab-agree (p .width) (λ i. gray weight (getD middle i 0)) (λ i. gray (gain r) (sameSum r p i j)) (λ i h. ap₂ gray w (middle-at i h))
+    taken-grays weight m w e =
+        ap (λ k. tab k (λ i. gray weight (getD taken i 0))) e
+        ∙ tab-agree (p .width) (λ i. gray weight (getD taken i 0)) (λ i. gray (gain r) (sameSum r p i j)) (λ i h. ap₂ gray w (taken-at i h))
 
 -- ---- work cells
 
@@ -114,8 +114,9 @@ pub record Grown (r : Recipe) (p : Picture) (m : Measures) : Type 0 where
 pub grown : (r : Recipe) (p : Picture) (m : Measures) → Known r m → Sized (p .width) (p .height) → Grown r p m
 unfolding fullSize fullWidth fullHeight
 grown r p m k s =
-    let few : p .width + m .«row_order» ≤ 1279 = omega (arith, k .rowReach, k .accepted .rowReach, s .width) in
-    let tall : p .height + m .«column_order» ≤ 1279 = omega (arith, k .columnReach, k .accepted .columnReach, s .height) in
+    let most = grown-most r (p .width) (p .height) (k .accepted) s in
+    let few : p .width + m .«row_order» ≤ 1279 = omega (arith, k .rowReach, most .0) in
+    let tall : p .height + m .«column_order» ≤ 1279 = omega (arith, k .columnReach, most .1) in
     record {
       wide = ap (λ n. p .width + n) (k .rowReach);
       few = few;

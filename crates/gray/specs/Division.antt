@@ -7,7 +7,7 @@ use lib.Count.{ones, trailingZeros}
 use lib.ListN.{getD}
 use Rattle.gray.specs.declared.rounding.Divisor.{Divisor}
 
--- a weight that no recipe is refused for
+-- what is kept to divide by a weight, which is not 0 and at most 2^44
 pub record Divides (weight : ℕ) (by : Divisor) : Type 0 where
   pub notZero : 0 < weight
   pub light : weight ≤ 2 ^ 44

@@ -3,5 +3,4 @@ pub mod Written
 pub mod Division
 pub mod Streaming
 pub mod Sampled
-pub mod Expressed
-pub mod Sides
+pub mod Pairs

@@ -11,4 +11,4 @@ pub record Rounded (r : Recipe) (sums out : List ℕ) (number : ℕ) (newOut : L
   -- 0, or the number of the first check that holds
   pub answer : number ≡ first (roundChecks r sums (length out))
   -- the greys, or on a refusal what the slice held
-  pub greys : newOut ≡ lent (roundChecks r sums (length out)) (grays (gain r) sums) out
+  pub grays : newOut ≡ lent (roundChecks r sums (length out)) (grays (gain r) sums) out

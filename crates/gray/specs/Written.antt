@@ -1,24 +1,12 @@
 -- What the same-size blur and the difference answer, and what the lent slices then contain.
-use mathlib.Core.Path.{_≡_}
-use mathlib.Core.List.{List, _++_}
+use mathlib.Core.List.{List}
 use Prim.Native.Nat.{ℕ, _+_, _*_}
 use lib.IntN.{ℤ}
-use lib.ListN.{length, take, drop}
+use lib.ListN.{length}
 use Rattle.spec.specs.Recipe.{Recipe}
 use Rattle.spec.specs.Picture.{Picture}
 use Rattle.spec.specs.Gray.{places, sameGray, difference}
-use Rattle.spec.specs.Refusals.{Check, first, lent, fullSize, sameSizeChecks, differenceChecks}
-
--- A call with these checks that makes a list in its output, with so many work cells needed.
-pub record Written {A : Type 0} (cs : List Check) (made : List A) (needed : ℕ) (out : List A) (cells : List ℕ) (number : ℕ) (newOut : List A) (newCells : List ℕ) : Type 0 where
-  -- 0, or the number of the first check that holds
-  pub answer : number ≡ first cs
-  -- what is made, or on a refusal what the slice held
-  pub output : newOut ≡ lent cs made out
-  -- the needed cells are free, and those beyond are what they were; on a refusal all are
-  pub work : newCells ≡ lent cs (take needed newCells ++ drop needed cells) cells
-  -- and there are as many cells as before
-  pub count : length newCells ≡ length cells
+use Rattle.spec.specs.Refusals.{Written, fullSize, sameSizeChecks, differenceChecks}
 
 -- Same-size blur: 1 to 8; the grey at each picture place; twice the grown size in work cells.
 abbrev pub Blurred : Recipe → Picture → List ℕ → List ℕ → ℕ → List ℕ → List ℕ → Type 0

@@ -13,7 +13,7 @@ ghost use Rattle.filter.proofs.Refusal.{Known};
 ghost use Rattle.spec.specs.Gray.{nearestDifference, places, difference as differenceOf};
 ghost use Rattle.gray.specs.Division.{Divides, Bounded};
 ghost use Rattle.gray.specs.Streaming.{pictureOf, Due, Came};
-ghost use Rattle.gray.specs.Sides.{BothTaken, BothAccepted};
+ghost use Rattle.gray.specs.Pairs.{BothTaken, BothAccepted};
 ghost use Rattle.gray.specs.Written.{Differenced};
 use crate::rounding::Divisor;
 use crate::rounding::divisor_of;
@@ -30,8 +30,8 @@ use stream::State;
 // The largest weight, and the largest product of two.
 const HEAVIEST: u64 = 17_592_186_044_416;
 
-// (x - y) over the weight, to the nearest whole number, a half away from zero. It is rounded once,
-// whatever the sign, so that a loop has no branch on the sign.
+// (x - y) over what `by` divides by, to the nearest whole number, a half away from zero. It is rounded
+// once, whatever the sign, so that a loop has no branch on the sign.
 fn signed(x: u64, y: u64, by: Divisor) -> i16
     requires { ⌜ Divides (by .weight) by × (x ≤ 255 * by .weight) × (y ≤ 255 * by .weight) ⌝ }
     ensures { λ r. ⌜ r ≡ nearestDifference x y (by .weight) ⌝ }
@@ -66,8 +66,8 @@ struct Pair {
     b: State,
 }
 
-// The next grown row of each. The first recipe has the work cells before `middle`, the second those
-// from there on.
+// The next grown row of each. The first recipe has the work cells before `middle`, which are at most
+// some 3 million, the second those from there on.
 fn next_rows(
     at: Pair,
     pixels: &[u8],
@@ -89,7 +89,7 @@ fn next_rows(
 }
 
 // What is taken of one recipe's sums: its weight, and the first grown column.
-struct Side {
+struct Operand {
     gain: u64,
     left: usize,
 }
@@ -98,8 +98,8 @@ struct Side {
 // taken.
 fn differences(
     pair: Pair,
-    a: Side,
-    b: Side,
+    a: Operand,
+    b: Operand,
     by: Divisor,
     pixels: &[u8],
     a_row: &mut [u64],
@@ -186,11 +186,11 @@ fn run(
             a: first,
             b: second,
         },
-        Side {
+        Operand {
             gain: m.gain,
             left: m.row_order / 2,
         },
-        Side {
+        Operand {
             gain: n.gain,
             left: n.row_order / 2,
         },
@@ -204,7 +204,8 @@ fn run(
     );
 }
 
-// 12 and 13: the reaches differ in parity on an axis, or the product of the weights is too large.
+// 12 and 13: the reaches differ in parity on an axis, or the product of the weights is too large. That
+// product need not fit 64 bits, so the limit is divided by one of them.
 fn pair_refusal(m: Measures, n: Measures) -> u8
     requires { ⌜ 0 < m .gain ⌝ }
     ensures { λ r. ⌜ r ≡ first (check (oddApart (m .«row_order») (n .«row_order») || oddApart (m .«column_order») (n .«column_order»)) 12
@@ -255,6 +256,7 @@ fn sized(
     if number != 0 {
         return number;
     }
+    // 1,024 + 255, the widest grown row
     let mut a_row = [0u64; 1279];
     let mut b_row = [0u64; 1279];
     let z: usize = 0;

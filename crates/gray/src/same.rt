@@ -22,8 +22,9 @@ use filter::measure;
 use spec::Filter;
 use stream::State;
 
-// The greys of all picture rows, from a state whose next grown row is the first that is taken.
-fn greys(
+// The greys of all picture rows, from a state whose next grown row is the first that is taken; `left` is
+// the first grown column that is.
+fn gray_rows(
     state: State,
     by: Divisor,
     left: usize,
@@ -68,7 +69,7 @@ fn run(
 {
     let above = m.column_order / 2;
     let state = begin(filter, width, height, above, pixels, row, cells);
-    greys(
+    gray_rows(
         state,
         divisor_of(m.gain),
         m.row_order / 2,
@@ -105,6 +106,7 @@ fn sized(
     if cells.len() < needed {
         return 8;
     }
+    // 1,024 + 255, the widest grown row
     let mut row = [0u64; 1279];
     let z: usize = 0;
     run(

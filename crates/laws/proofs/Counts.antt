@@ -11,7 +11,7 @@ use lib.Dec.{eqb}
 use borrow.Author.Tests.{eq-eqb, ne-eqb, eqb-true}
 use Rattle.spec.specs.Words.{total, product, everywhere, keep, occurs}
 use Rattle.spec.specs.Same.{struck, sameCounts}
-use Rattle.laws.proofs.Refusals.{both}
+use Rattle.laws.proofs.Numbers.{both}
 use Rattle.laws.proofs.Lists.{total-append, first-pos, rest-pos}
 
 -- every number occurs as often in the one list as in the other

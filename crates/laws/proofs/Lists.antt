@@ -1,8 +1,8 @@
--- Lists made by a rule, and totals and products over the front of a list.
+-- Lists made by a rule, totals and products over the front of a list, and where a test holds in a list.
 -- Assumes nothing.
 use mathlib.Core.Path.{_≡_, refl, sym, ap, ap₂, _∙_}
-use mathlib.Core.Bool.{Bool, true, false, _||_, true≢false, or-assoc, or-false}
-use mathlib.Core.List.{List, [], _∷_, _++_}
+use mathlib.Core.Bool.{Bool, false, _||_, or-assoc, or-false}
+use mathlib.Core.List.{List, [], _∷_, _++_, map}
 use Prim.Native.Nat.{ℕ, zero, suc, _+_, _*_, _≤_, _<_, suc-le-suc}
 use native.Mathlib.Nat.{zero-add, le-of-suc-le-suc, not-suc-le-zero, zero-lt-suc, mul-zero, mul-one, mul-add, mul-comm, mul-assoc, le-refl, le-trans, le-of-eq, le-mul-of-pos-right}
 use native.Mathlib.Numerals.{add-one}
@@ -10,7 +10,7 @@ use native.Mathlib.Omega.{arith}
 use lib.Dec.{eqb}
 use lib.ListN.{length, getD, take, drop, replicate, length-drop, List·getD-eq-default}
 use lib.Seq.{ext-getD, getD-take, getD-drop, length-take-le, take-suc}
-use Rattle.laws.proofs.Numbers.{zero-factor}
+use Rattle.laws.proofs.Numbers.{zero-factor, neither}
 use Rattle.spec.specs.Words.{tab, part, total, product, somewhere}
 
 module _ {A : Type 0} where
@@ -41,11 +41,16 @@ module _ {A : Type 0} where
   tab-more zero f = refl
   tab-more (suc n) f = ap (λ l. f 0 ∷ l) (tab-more n (λ k. f (suc k)))
 
-  -- a list is made by the rule that reads it
+  -- a list is made by the rule that reads it, and each entry under a function by the rule that reads it and applies that
   pub tab-getD : (d : A) (xs : List A) → tab (length xs) (λ k. getD xs k d) ≡ xs
   unfolding tab
   tab-getD d [] = refl
   tab-getD d (x ∷ xs) = ap (λ l. x ∷ l) (tab-getD d xs)
+
+  pub tab-map : {B : Type 0} (f : A → B) (d : A) (xs : List A) → tab (length xs) (λ k. f (getD xs k d)) ≡ map f xs
+  unfolding tab
+  tab-map f d [] = refl
+  tab-map f d (x ∷ xs) = ap (λ l. f x ∷ l) (tab-map f d xs)
 
   -- the same entry everywhere
   pub tab-replicate : (n : ℕ) (x : A) → tab n (λ k. x) ≡ replicate n x
@@ -121,16 +126,8 @@ module _ {A : Type 0} (p : A → Bool) where
   pub nowhere : (d : A) (xs : List A) → somewhere p xs ≡ false → (i : ℕ) → i < length xs → p (getD xs i d) ≡ false
   unfolding somewhere
   nowhere d [] e i h = absurd (not-suc-le-zero h)
-  nowhere d (x ∷ xs) e zero h = go (p x) e
-    where
-      go : (b : Bool) → (b || somewhere p xs) ≡ false → b ≡ false
-      go true q = q
-      go false q = refl
-  nowhere d (x ∷ xs) e (suc i) h = nowhere d xs (go (p x) e) i (le-of-suc-le-suc h)
-    where
-      go : (b : Bool) → (b || somewhere p xs) ≡ false → somewhere p xs ≡ false
-      go true q = absurd (true≢false q)
-      go false q = q
+  nowhere d (x ∷ xs) e zero h = neither (p x) (somewhere p xs) e .0
+  nowhere d (x ∷ xs) e (suc i) h = nowhere d xs (neither (p x) (somewhere p xs) e .1) i (le-of-suc-le-suc h)
 
 -- a product is 0 exactly where an entry is
 pub product-zero : (xs : List ℕ) → somewhere (λ n. eqb n 0) xs ≡ eqb (product xs) 0

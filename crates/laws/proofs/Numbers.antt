@@ -1,7 +1,7 @@
--- Numbers held at a limit, rows of places, and factors that are 0.
+-- Numbers held at a limit, rows of places, factors that are 0, and two tests.
 -- Assumes nothing.
-use mathlib.Core.Path.{_≡_, sym, ap}
-use mathlib.Core.Bool.{_||_}
+use mathlib.Core.Path.{_≡_, refl, sym, ap}
+use mathlib.Core.Bool.{Bool, true, false, _||_, _&&_, true≢false}
 use Prim.Native.Nat.{ℕ, zero, suc, _+_, _*_, _≤_, _<_, min}
 use native.Mathlib.Nat.{zero-lt-suc, mul-zero, zero-mul, mul-pos, suc-mul, mul-le-mul-right, le-mul-of-pos-right}
 use native.Mathlib.Decide.{decLe}
@@ -37,3 +37,12 @@ zero-factor (suc a) zero = rw (eqb·suc-zero a) (sym (ap (λ m. eqb m 0) (mul-ze
 zero-factor (suc a) (suc b) =
     let h : 0 < suc a * suc b = mul-pos (zero-lt-suc a) (zero-lt-suc b) in
     rw (eqb·suc-zero a, eqb·suc-zero b) (sym (ne-eqb (suc a * suc b) 0 (λ e. omega arith)))
+
+-- two tests of which neither holds, and of which both do
+pub neither : (a b : Bool) → (a || b) ≡ false → (a ≡ false) × (b ≡ false)
+neither true b e = absurd (true≢false e)
+neither false b e = (refl, e)
+
+pub both : (a b : Bool) → (a && b) ≡ true → (a ≡ true) × (b ≡ true)
+both true b e = (refl, e)
+both false b e = absurd (true≢false (sym e))

@@ -1,20 +1,20 @@
 -- The first condition that holds, in a list of conditions and in a part of it, and what is known of a recipe that is accepted.
 -- Assumes nothing.
 use mathlib.Core.Path.{_≡_, refl, sym, ap, ap₂, _∙_}
-use mathlib.Core.Bool.{Bool, true, false, not, cond, _||_, _&&_, true≢false}
+use mathlib.Core.Bool.{Bool, true, false, not, cond, _||_, true≢false}
 use mathlib.Core.List.{List, [], _∷_, _++_}
 use Prim.Native.Nat.{ℕ, zero, suc, _*_, _^_, _≤_, _<_}
 use native.Mathlib.Nat.{pos-of-ne-zero}
 use native.Mathlib.Omega.{arith}
 use lib.Dec.{eqb, ltb}
-use lib.ListN.{length}
-use borrow.Author.Tests.{eq-eqb, ne-eqb, ltb-false, eqb-false, eqb-true}
+use lib.ListN.{length, take, drop}
+use borrow.Author.Tests.{lt-ltb, le-ltb, eq-eqb, ne-eqb, ltb-false, eqb-false, eqb-true}
 use Rattle.spec.specs.Words.{product}
 use Rattle.spec.specs.Recipe.{Recipe, order, gain}
-use Rattle.spec.specs.Picture.{Picture}
-use Rattle.spec.specs.Refusals.{Check, check, first, either, accepted, refused, answer, lent, badSide, badSides, otherPixels, tooLong, zeroWidth, tooFar, tooHeavy, recipeChecks, sizeChecks, pictureChecks}
+use Rattle.spec.specs.Picture.{Picture, fullWidth, fullHeight}
+use Rattle.spec.specs.Refusals.{Check, check, first, either, accepted, refused, answer, lent, badSide, badSides, otherPixels, otherOutput, tooFewCells, Written, tooLong, zeroWidth, tooFar, tooHeavy, recipeChecks, sizeChecks, pictureChecks}
 use Rattle.laws.proofs.Lists.{product-zero}
-use Rattle.laws.proofs.Numbers.{zero-factor}
+use Rattle.laws.proofs.Numbers.{zero-factor, neither}
 
 -- every condition of a list has a number that is not 0
 abbrev pub Numbered : List Check → Type 0
@@ -93,14 +93,6 @@ unfolding first check
 first-none true n cs e = absurd (omega arith)
 first-none false n cs e = (refl, e)
 
-pub neither : (a b : Bool) → (a || b) ≡ false → (a ≡ false) × (b ≡ false)
-neither true b e = absurd (true≢false e)
-neither false b e = (refl, e)
-
-pub both : (a b : Bool) → (a && b) ≡ true → (a ≡ true) × (b ≡ true)
-both true b e = (refl, e)
-both false b e = absurd (true≢false (sym e))
-
 -- a recipe to which none of 1 to 4 applies
 pub record Accepted (r : Recipe) : Type 0 where
   pub rowsShort : length (r .rows) ≤ 48
@@ -173,6 +165,11 @@ is-sized r w h e =
     let five = neither (badSide w) (badSide h) (first-none (badSides w h) 4 _ (both .1) .0) in
     (is-accepted r (both .0), record { width = good-side w (five .0); height = good-side h (five .1) })
 
+-- how wide and how high a grown picture can be
+pub grown-most : (r : Recipe) (w h : ℕ) → Accepted r → Sized w h → (fullWidth r w ≤ 1279) × (fullHeight r h ≤ 1279)
+unfolding fullWidth fullHeight
+grown-most r w h k s = (omega (arith, k .rowReach, s .width), omega (arith, k .columnReach, s .height))
+
 -- lengths that are as stated, and that are not; 6 and 7 ask the same
 pub as-stated : (m n : ℕ) → m ≡ n → otherPixels m n ≡ false
 unfolding otherPixels
@@ -226,3 +223,31 @@ module _ (r : Recipe) (p : Picture) where
   pub picture-rest : (ds : List Check) → first (sizeChecks r (p .width) (p .height)) ≡ 0 → length (p .pixels) ≡ p .width * p .height
       → first (pictureChecks r p ++ ds) ≡ first ds
   picture-rest ds z e = first-rest (pictureChecks r p) ds (picture-numbered r p) (picture-passed z e)
+
+-- a call that makes a list: on a refusal nothing is written; otherwise all is
+module _ {A : Type 0} (cs : List Check) (made : List A) (needed : ℕ) (out : List A) (cells : List ℕ) where
+  pub written-not : (n : ℕ) → first cs ≡ n → (n ≡ 0 → ⊥) → Written cs made needed out cells n out cells
+  written-not n e h = record { answer = sym e; output = sym (lent-refused cs _ out n e h); work = sym (lent-refused cs _ cells n e h); count = refl }
+
+  pub written-all : first cs ≡ 0 → (newOut : List A) (newCells : List ℕ) → newOut ≡ made → newCells ≡ take needed newCells ++ drop needed cells
+      → length newCells ≡ length cells → Written cs made needed out cells 0 newOut newCells
+  written-all e newOut newCells m w n =
+      record { answer = sym e; output = m ∙ sym (lent-accepted cs made out e); work = w ∙ sym (lent-accepted cs _ cells e); count = n }
+
+-- 7 and 8, with other checks after them
+module _ (ds : List Check) where
+  pub by-output : (out stated : ℕ) → (out ≡ stated → ⊥) → first (check (otherOutput out stated) 7 ∷ ds) ≡ 7
+  unfolding first check otherOutput otherPixels
+  by-output out stated h = ap (λ b. cond b 7 (first ds)) (not-stated out stated h)
+
+  pub after-output : (out stated : ℕ) → out ≡ stated → first (check (otherOutput out stated) 7 ∷ ds) ≡ first ds
+  unfolding first check otherOutput otherPixels
+  after-output out stated e = ap (λ b. cond b 7 (first ds)) (as-stated out stated e)
+
+  pub by-cells : (cells needed : ℕ) → cells < needed → first (check (tooFewCells cells needed) 8 ∷ ds) ≡ 8
+  unfolding first check tooFewCells
+  by-cells cells needed h = ap (λ b. cond b 8 (first ds)) (lt-ltb cells needed h)
+
+  pub after-cells : (cells needed : ℕ) → needed ≤ cells → first (check (tooFewCells cells needed) 8 ∷ ds) ≡ first ds
+  unfolding first check tooFewCells
+  after-cells cells needed h = ap (λ b. cond b 8 (first ds)) (le-ltb cells needed h)

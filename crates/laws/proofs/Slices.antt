@@ -1,5 +1,5 @@
 -- Loops that rewrite a slice in place, entry by entry, from the left or from the right: at each turn the slice is the front of
--- one list and the back of another, of the same length.
+-- one list and the back of another, of the same length. And parts of a slice that were lent.
 -- Assumes nothing.
 use mathlib.Core.Path.{_≡_, refl, sym, ap, ap₂, subst, _∙_}
 use mathlib.Core.List.{List, _∷_, _++_, append-nil, append-assoc}

@@ -65,7 +65,7 @@ differences = refl
 -- the three readings at column 2, row 0
 pub readings : Gray.reading asGray uneven wall 2 0 ∷ Gray.reading asSum uneven wall 2 0 ∷ Gray.reading asQuotient uneven wall 2 0 ∷ []
     ≡ grayReading 11 ∷ sumReading 130 ∷ quotientReading (Ieee.ofBits binary64 0x4025_AAAA_AAAA_AAAB) ∷ []
-unfolding sum tab total product box convolve kernel order gain pixel pixelBack exact Gray.gray Gray.sameColumn Gray.sameRow Gray.sameSum Gray.sameGray Gray.float Gray.ratio Gray.sameQuotient Gray.reading Ieee.ofInt Ieee.div Ieee.round Ieee.units Ieee.odd Ieee.size Ieee.climb Ieee.span Ieee.ofBits Ieee.ofFields
+unfolding sum tab total product box convolve kernel order gain pixel pixelBack exact Gray.gray Gray.sameColumn Gray.sameRow Gray.sameSum Gray.sameGray Gray.float Gray.ratio Gray.sameQuotient Gray.reading Ieee.ofInt Ieee.div Ieee.round Ieee.units Ieee.odd Ieee.size Ieee.climb Ieee.span Ieee.ofBits Ieee.ofFields Gray.expressed
 readings = refl
 
 -- the scale card of rows 5, columns 2,2

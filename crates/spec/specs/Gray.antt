@@ -1,11 +1,10 @@
 -- Document 01, "Greys, differences, readings".
 use mathlib.Core.Bool.{cond}
-use mathlib.Core.List.{List, flatten}
+use mathlib.Core.List.{List, flatten, map}
 use Prim.Native.Nat.{ℕ, _+_, _-_, _*_, _/_}
 use lib.Dec.{leb}
 use lib.Ieee.{Float, binary64, div, ofInt}
 use lib.IntN.{ℤ, pos, negℤ}
-use lib.ListN.{length, getD}
 use Rattle.spec.specs.Words.{tab, total}
 use Rattle.spec.specs.Recipe.{Recipe, order, gain}
 use Rattle.spec.specs.Picture.{Picture, exact}
@@ -14,9 +13,9 @@ use Rattle.spec.specs.Picture.{Picture, exact}
 unfoldable pub gray : ℕ → ℕ → ℕ
 gray weight s = (s + weight / 2) / weight
 
--- the greys of a row of sums, as many
+-- the grey of each sum of a row
 unfoldable pub grays : ℕ → List ℕ → List ℕ
-grays weight sums = tab (length sums) (λ k. gray weight (getD sums k 0))
+grays weight sums = map (gray weight) sums
 
 -- f at each picture place (i, j), row by row
 unfoldable pub places {ℓ} : {A : Type ℓ} → Picture → (ℕ → ℕ → A) → List A
@@ -69,10 +68,14 @@ pub data Reading : Type 0 where
 pub data Choice : Type 0 where
   asGray asSum asQuotient : Choice
 
+-- a sum over a weight, as it is chosen
+unfoldable pub expressed : Choice → ℕ → ℕ → Reading
+expressed asGray weight s = grayReading (gray weight s)
+expressed asSum weight s = sumReading s
+expressed asQuotient weight s = quotientReading (ratio s weight)
+
 unfoldable pub reading : Choice → Recipe → Picture → ℕ → ℕ → Reading
-reading asGray r p i j = grayReading (sameGray r p i j)
-reading asSum r p i j = sumReading (sameSum r p i j)
-reading asQuotient r p i j = quotientReading (sameQuotient r p i j)
+reading c r p i j = expressed c (gain r) (sameSum r p i j)
 
 -- Variance of a list: the sum of (n times n - 1), divided by 12 once.
 unfoldable pub squares : List ℕ → ℕ

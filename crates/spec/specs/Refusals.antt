@@ -1,9 +1,10 @@
 -- Document 01, "If the reader says no": each condition by its number, and the order in which each call asks them.
+use mathlib.Core.Path.{_≡_}
 use mathlib.Core.Bool.{Bool, not, _&&_, _||_, cond}
 use mathlib.Core.List.{List, [], _∷_, _++_}
 use Prim.Native.Nat.{ℕ, zero, suc, _+_, _*_, _%_, _^_}
 use lib.Dec.{leb, ltb, eqb}
-use lib.ListN.{length, getD}
+use lib.ListN.{length, getD, take, drop}
 use Rattle.spec.specs.Words.{somewhere}
 use Rattle.spec.specs.Recipe.{Recipe, order, gain}
 use Rattle.spec.specs.Picture.{Picture, fullWidth, fullHeight}
@@ -126,6 +127,17 @@ answer cs a = either (first cs) (accepted a) (refused (first cs))
 -- what a lent slice then contains: the new content, or on a refusal what it was
 unfoldable pub lent : {A : Type 0} → List Check → A → A → A
 lent cs new old = either (first cs) new old
+
+-- What a call with these checks answers and leaves, which makes a list in its output and needs so many work cells.
+pub record Written {A : Type 0} (cs : List Check) (made : List A) (needed : ℕ) (out : List A) (cells : List ℕ) (number : ℕ) (newOut : List A) (newCells : List ℕ) : Type 0 where
+  -- 0, or the number of the first check that holds
+  pub answer : number ≡ first cs
+  -- what is made, or on a refusal what the slice held
+  pub output : newOut ≡ lent cs made out
+  -- the needed cells are free, and those beyond are what they were; on a refusal all are
+  pub work : newCells ≡ lent cs (take needed newCells ++ drop needed cells) cells
+  -- and there are as many cells as before
+  pub count : length newCells ≡ length cells
 
 -- ---- the order of each call
 

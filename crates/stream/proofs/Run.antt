@@ -4,7 +4,7 @@
 use mathlib.Core.Path.{_≡_, refl, sym, ap, ap₂, subst, _∙_}
 use mathlib.Core.Bool.{Bool, false, not, _||_}
 use mathlib.Core.List.{List, [], _∷_, _++_, append-nil, append-assoc}
-use Prim.Native.Nat.{ℕ, zero, suc, _+_, _-_, _*_, _^_, _≤_, _<_}
+use Prim.Native.Nat.{ℕ, zero, suc, _+_, _*_, _^_, _≤_, _<_}
 use native.Mathlib.Nat.{le-trans, le-of-eq, add-zero, zero-add}
 use native.Mathlib.Omega.{arith}
 use lib.Dec.{leb, ltb}
@@ -418,6 +418,11 @@ unfolding outputs
 outputs-append [] zs = refl
 outputs-append (y ∷ ys) zs = ap (λ l. y .out ∷ l) (outputs-append ys zs)
 
+pub length-outputs : (ys : List Yielded) → length (outputs ys) ≡ length ys
+unfolding outputs
+length-outputs [] = refl
+length-outputs (y ∷ ys) = ap suc (length-outputs ys)
+
 -- ---- the claim
 
 -- so many rows of the picture, as the calls' own number of rows
@@ -443,17 +448,17 @@ module _ (f : Filter) (p : Picture) (cells : List ℕ) (begins : first (startChe
   ready : List ℕ
   ready = replicate needed 0 ++ drop needed cells
 
-  begun : start f (p .width) (p .height) cells ≡ started f (p .width) (p .height) cells
+  pub accepted-start : start f (p .width) (p .height) cells ≡ started f (p .width) (p .height) cells
   unfolding start
-  begun = lent-accepted _ _ _ begins
+  accepted-start = lent-accepted _ _ _ begins
 
   runs : (calls : List Call) → acceptedCalls f p cells calls ≡ run calls (at f p 0) ready
   unfolding acceptedCalls started ready needed
-  runs calls = ap (λ (b : Began). run calls (b .state) (b .cells)) begun
+  runs calls = ap (λ (b : Began). run calls (b .state) (b .cells)) accepted-start
 
   leaves : (calls : List Call) → left f p cells calls ≡ carried calls (at f p 0) ready
   unfolding left started ready needed
-  leaves calls = ap (λ (b : Began). carried calls (b .state) (b .cells)) begun
+  leaves calls = ap (λ (b : Began). carried calls (b .state) (b .cells)) accepted-start
 
   honest : Honest (recipe f) p 0 ready
   unfolding ready needed

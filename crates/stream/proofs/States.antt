@@ -11,7 +11,8 @@ use Rattle.spec.specs.Recipe.{Recipe}
 use Rattle.spec.specs.Picture.{fullWidth, fullHeight}
 use Rattle.spec.specs.Stream.{State, streamCells}
 use Rattle.spec.specs.Refusals.{Check, check, first, tooLong, zeroWidth, tooFar, tooHeavy, badSide, badSides, badState, rowNotDue, drainNotDue, otherPixels, otherOutput, tooFewCells, recipeChecks, sizeChecks, cellChecks, rowChecks, drainChecks}
-use Rattle.laws.proofs.Refusals.{none-both, first-none, first-then, neither, recipe-numbered, same-length-so, is-sized}
+use Rattle.laws.proofs.Numbers.{neither}
+use Rattle.laws.proofs.Refusals.{none-both, first-none, first-then, recipe-numbered, same-length-so, is-sized}
 use Rattle.stream.specs.Private.{Ready}
 
 -- a width that is accepted with a height is accepted alone

@@ -7,7 +7,8 @@ use borrow.Author.Needs.{needs}
 use mathlib.Core.Bool.{false}
 use Rattle.spec.specs.Recipe.{recipe}
 use Rattle.spec.specs.Refusals.{badSide, badSides, sizeChecks, Answer, accepted as accepted-as}
-use Rattle.laws.proofs.Refusals.{good-side, neither}
+use Rattle.laws.proofs.Numbers.{neither}
+use Rattle.laws.proofs.Refusals.{good-side}
 use Rattle.filter.proofs.Refusal.{Known, known, told-refused, told-then, told-accepted}
 use Rattle.spec.specs.Picture.{Sides, fullWidth, fullHeight, fullSides}
 use Rattle.filter.proofs.sizes.full_size.Statement.{statement}

@@ -12,11 +12,12 @@ use Rattle.spec.specs.Picture.{Picture, picture, fullWidth, fullHeight, fullRow
 use Rattle.spec.specs.Gray.{places, sameRow, sameSum, difference}
 use Rattle.laws.proofs.Numbers.{row-fits}
 use Rattle.laws.proofs.Slices.{Mixed, mixed-none, mixed-all, length-mixed, length-lent}
+use Rattle.laws.proofs.Refusals.{grown-most}
 use Rattle.laws.proofs.Rows.{length-rows, rows-more}
 use Rattle.gray.specs.Division.{Bounded}
 use Rattle.gray.specs.Streaming.{Streamed, pictureOf}
 use Rattle.gray.proofs.Driving.{is-due, has-come}
-use Rattle.gray.proofs.Taking.{long, middle-length, middle-at, middle-bounded}
+use Rattle.gray.proofs.Taking.{long, taken-length, taken-at, taken-bounded}
 use Rattle.gray.proofs.Differences.{row-of-differences}
 use Rattle.gray.proofs.pair.differences.Statement.{statement}
 use Rattle.gray.proofs.pair.differences.Tie as tie
@@ -56,8 +57,8 @@ sizes c =
     record {
       first = omega (arith, a .half);
       second = omega (arith, b .half, c .pre .0 .sameWidth);
-      firstMost = omega (arith, a .picture .recipe .rowReach, a .picture .sides .width);
-      secondMost = omega (arith, b .picture .recipe .rowReach, b .picture .sides .width);
+      firstMost = grown-most _ _ _ (a .picture .recipe) (a .picture .sides) .0;
+      secondMost = grown-most _ _ _ (b .picture .recipe) (b .picture .sides) .0;
       out = mul-le-mul (a .picture .sides .width .1) (a .picture .sides .height .1);
     }
 
@@ -185,11 +186,11 @@ difference-row-requires c κs =
     let out = sym (length-lent (turn .loop .from) (s .width) (turn .loop .out) (inside test)) in (
       taken .divides,
       subst (λ w. Bounded w (take (left + s .width - left) (drop left (rows .next-rows .last .1 .1 .0)))) (sym (taken .aGain))
-          (middle-bounded _ _ _ _ (first-came rows .1) left _ (taken .first .half) many bytes),
+          (taken-bounded _ _ _ _ (first-came rows .1) left _ (taken .first .half) many bytes),
       subst (λ w. Bounded w (take (other + s .width - other) (drop other (rows .next-rows .last .1 .1 .1 .0)))) (sym (taken .bGain))
-          (middle-bounded _ _ _ _ (second-came rows .1) other _ (taken .second .half) more bytes),
-      middle-length _ _ _ _ (first-came rows .1) left _ (taken .first .half) many ∙ out,
-      middle-length _ _ _ _ (second-came rows .1) other _ (taken .second .half) more ∙ taken .sameWidth ∙ out,
+          (taken-bounded _ _ _ _ (second-came rows .1) other _ (taken .second .half) more bytes),
+      taken-length _ _ _ _ (first-came rows .1) left _ (taken .first .half) many ∙ out,
+      taken-length _ _ _ _ (second-came rows .1) other _ (taken .second .half) more ∙ taken .sameWidth ∙ out,
     )
 
 add-j : tie.Need-add-j Inv-loop μ-loop
@@ -225,8 +226,8 @@ loop-again c =
     let made =
     c .before .difference-row .ensures
     ∙ row-of-differences f g p j xs ys _ _ _ (taken .aGain) (taken .bGain) (length-lent from (s .width) (turn .loop .out) (inside test))
-    (middle-at f p _ _ (first-came rows .1) left _ (taken .first .half) many)
-    (λ i h. middle-at g _ _ _ (second-came rows .1) other _ (taken .second .half) more i (omega (arith, h, taken .sameWidth)) ∙ ap (λ (q : Picture). sameSum g q i j) (one-picture start)) in
+    (taken-at f p _ _ (first-came rows .1) left _ (taken .first .half) many)
+    (λ i h. taken-at g _ _ _ (second-came rows .1) other _ (taken .second .half) more i (omega (arith, h, taken .sameWidth)) ∙ ap (λ (q : Picture). sameSum g q i j) (one-picture start)) in
     let written =
     rows-more (s .width) (s .height) (λ j i. difference f g p i j) (pos 0) j from _ (turn .loop .inv .8) (turn .loop .inv .1) below (omega (arith, inside test, turn .loop .inv .4)) made in (
       omega (arith, below),

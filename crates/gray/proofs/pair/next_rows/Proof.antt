@@ -1,7 +1,6 @@
 -- `gray::pair::next_rows` meets its contract: each recipe's next grown row comes on its own part of the cells.
 -- Assumes nothing.
 use mathlib.Core.Path.{_≡_, sym, ap, subst, _∙_}
-use Prim.Native.Nat.{_-_}
 use native.Mathlib.Omega.{arith}
 use borrow.Author.Needs.{needs}
 use lib.ListN.{length}

@@ -11,9 +11,9 @@ use Rattle.spec.specs.Recipe.{recipe}
 use Rattle.spec.specs.Picture.{picture}
 use Rattle.spec.specs.Refusals.{first, fullSize}
 use Rattle.laws.proofs.Slices.{front-lent}
-use Rattle.laws.proofs.Refusals.{Sized, is-sized, picture-passed}
+use Rattle.laws.proofs.Refusals.{Sized, is-sized, picture-passed, written-not, written-all, by-output, after-output, by-cells, after-cells}
 use Rattle.gray.proofs.Taking.{Grown, grown}
-use Rattle.gray.proofs.Answering.{written-not, written-all, by-output, by-cells, by-rest, picture-both, pairChecks, pair-pixels, pair-rest, pair-told, product-light}
+use Rattle.gray.proofs.Answering.{picture-both, pairChecks, pair-pixels, pair-rest, pair-told, product-light}
 use Rattle.gray.proofs.pair.sized.Statement.{statement}
 use Rattle.gray.proofs.pair.sized.Tie as tie
 
@@ -45,7 +45,7 @@ returns c =
 returns-2 : tie.Need-returns-2
 returns-2 c =
     let start = c .before .before .before .before in
-    written-not _ _ _ _ _ 7 (pair-rest _ _ _ _ _ (start .pre .0 .none) (start .pre .2) (c .before .if1 .left) ∙ by-output _ _ _ _ _ (c .if2 .taken)) (λ e. omega arith)
+    written-not _ _ _ _ _ 7 (pair-rest _ _ _ _ _ (start .pre .0 .none) (start .pre .2) (c .before .if1 .left) ∙ by-output _ _ _ (c .if2 .taken)) (λ e. omega arith)
 
 add-a-width : tie.Need-add-a-width
 add-a-width c = omega (arith, first-size (c .before .before .before .before .before) .few)
@@ -80,14 +80,14 @@ returns-3 c =
     let out = c .before .before .before .before .before in
     written-not _ _ _ _ _ 8
     (pair-rest _ _ _ _ _ (start .pre .0 .none) (start .pre .2) (out .before .if1 .left)
-    ∙ by-cells _ _ _ _ _ (out .if2 .left) (omega (arith, c .if3 .taken, needed-is start))) (λ e. omega arith)
+    ∙ after-output _ _ _ (out .if2 .left) ∙ by-cells _ _ _ (omega (arith, c .if3 .taken, needed-is start))) (λ e. omega arith)
 
 pair-refusal-requires : tie.Need-pair-refusal-requires
 pair-refusal-requires c κs = let k = c .before .before .before .before .before .before .before .before .before .pre .0 in omega (arith, k .weight, k .accepted .notZero)
 
 -- after 8 comes what 12 and 13 say
 last : (c : tie.After-pair-refusal) → let args = c .before .before .before .before .before .before .before .before .before .before .args in let a = recipe (args .a) in let b = recipe (args .b) in
-    c .pair-refusal .result ≡ first (pairChecks a b (picture (args .width) (args .height) (args .pixels .now)) (length (args .out .now)) (length (args .cells .now)))
+    c .pair-refusal .result ≡ first (pairChecks a b)
 last c =
     let start = c .before .before .before .before .before .before .before .before .before .before in
     c .pair-refusal .ensures ∙ pair-told _ _ _ _ (start .pre .0) (start .pre .1)
@@ -99,7 +99,7 @@ returns-4 c =
     let out = enough .before .before .before .before .before in
     written-not _ _ _ _ _ _
     (pair-rest _ _ _ _ _ (start .pre .0 .none) (start .pre .2) (out .before .if1 .left)
-    ∙ by-rest _ _ _ _ _ (out .if2 .left) (omega (arith, enough .if3 .left, needed-is start)) ∙ sym (last (c .before))) (c .if4 .taken)
+    ∙ after-output _ _ _ (out .if2 .left) ∙ after-cells _ _ _ (omega (arith, enough .if3 .left, needed-is start)) ∙ sym (last (c .before))) (c .if4 .taken)
 
 mul-a-row : tie.Need-mul-a-row
 mul-a-row c = search needs
@@ -163,7 +163,7 @@ run-requires c κs =
         second = accepted;
         firstKnown = start .pre .0;
         secondKnown = start .pre .1;
-        light = product-light _ _ _ _ (start .pre .0) (start .pre .1) (sym (last (c .before .before .before .before .before)) ∙ c .before .before .before .before .if4 .left);
+        light = product-light _ _ (sym (last (c .before .before .before .before .before)) ∙ c .before .before .before .before .if4 .left);
       },
       simp length-take (omega (arith, s .wide, s .few)),
       simp length-take (omega (arith, t .wide, t .few)),
@@ -186,7 +186,7 @@ returns-5 c =
     let out = enough .before .before .before .before .before in
     written-all _ _ _ _ _
     (pair-rest _ _ _ _ _ (start .pre .0 .none) (start .pre .2) (out .before .if1 .left)
-    ∙ by-rest _ _ _ _ _ (out .if2 .left) (omega (arith, enough .if3 .left, needed-is start)) ∙ sym (last (c .before .before .before .before .before .before .before .before .before .before .before)) ∙ c .before .before .before .before .before .before .before .before .before .before .if4 .left)
+    ∙ after-output _ _ _ (out .if2 .left) ∙ after-cells _ _ _ (omega (arith, enough .if3 .left, needed-is start)) ∙ sym (last (c .before .before .before .before .before .before .before .before .before .before .before)) ∙ c .before .before .before .before .before .before .before .before .before .before .if4 .left)
     _ _ (run .ensures)
     (front-lent _ _ (needed-is start) (run .last .1 .1 .1 .1 .1 .1 .1 .1 .1 .1 .1 .0) (start .args .cells .now) (run .kept .1 .1 .1 .1 .1 .1 .1 .1 .1 .1 .1 .0 ∙ part-long enough ∙ sym (needed-is start)))
     (same-length-2 c)

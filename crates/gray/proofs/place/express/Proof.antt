@@ -3,10 +3,9 @@
 use mathlib.Core.Path.{sym, ap, subst, _∙_}
 use native.Mathlib.Omega.{arith}
 use borrow.Author.Needs.{needs}
-use Rattle.spec.specs.Gray.{grayReading, quotientReading, gray}
+use Rattle.spec.specs.Gray.{grayReading, quotientReading, gray, expressed}
 use Rattle.gray.specs.Division.{Divides}
 use Rattle.gray.specs.Sampled.{chosen}
-use Rattle.gray.specs.Expressed.{expressed}
 use Rattle.gray.proofs.place.express.Statement.{statement}
 use Rattle.gray.proofs.place.express.Tie as tie
 

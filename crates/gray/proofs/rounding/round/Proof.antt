@@ -8,7 +8,7 @@ use Rattle.spec.specs.Recipe.{recipe, gain}
 use Rattle.spec.specs.Refusals.{roundChecks, tooBright}
 use Rattle.filter.proofs.Refusal.{Known, known, measured-refused}
 use Rattle.gray.specs.Division.{Divides, Bounded}
-use Rattle.gray.proofs.Greys.{none-bright, by-length, by-brightness, round-refused, round-all}
+use Rattle.gray.proofs.Grays.{none-bright, by-length, by-brightness, round-refused, round-all}
 use Rattle.gray.proofs.rounding.round.Statement.{statement}
 use Rattle.gray.proofs.rounding.round.Tie as tie
 

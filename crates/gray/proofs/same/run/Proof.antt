@@ -35,8 +35,8 @@ divisor-of-requires c κs =
     let k = c .before .before .before .before .before .before .before .before .before .before .before .before .pre .1 in
     (omega (arith, k .weight, k .accepted .notZero), omega (arith, k .weight, k .accepted .light))
 
-greys-requires : tie.Need-greys-requires
-greys-requires c κs =
+gray-rows-requires : tie.Need-gray-rows-requires
+gray-rows-requires c κs =
     let begins = c .before .before .before .before .before .before .before .before .before in
     let start = begins .before .before .before .before .before .before .before .before in
     let k = start .pre .1 in
@@ -60,7 +60,7 @@ returns : tie.Need-returns
 returns c =
     let begins = c .before .before .before .before .before .before .before .before .before .before .before .before .before .before .before .before in
     let pixels = begins .before .before .before .before .before .before .before .before .args .pixels .now in
-    c .before .before .before .before .before .before .greys .ensures
+    c .before .before .before .before .before .before .gray-rows .ensures
     ∙ ap (λ (s : State). places (pictureOf s pixels) (sameGray (recipe (s .filter)) (pictureOf s pixels))) (begins .begin .ensures .is)
 
 pub run-spec : {M : Type 1} → statement M
@@ -69,7 +69,7 @@ run-spec =
     (tie.spec
     begin-requires
     divisor-of-requires
-    greys-requires
+    gray-rows-requires
     same-length
     same-length-2
     same-length-3

@@ -1,7 +1,7 @@
 -- `gray::same::sized` meets its contract, check by check, and then by that of `run`.
 -- Assumes nothing.
 use mathlib.Core.Path.{_≡_, sym, ap, _∙_}
-use mathlib.Core.List.{[]}
+use mathlib.Core.List.{[], _∷_}
 use Prim.Native.Nat.{_+_, _-_, _*_, _≤_}
 use native.Mathlib.Nat.{mul-le-mul, sub-zero}
 use native.Mathlib.Omega.{arith}
@@ -10,11 +10,11 @@ use lib.ListN.{length, take, length-take}
 use lib.Seq.{length-take-le}
 use Rattle.spec.specs.Recipe.{recipe}
 use Rattle.spec.specs.Picture.{picture}
-use Rattle.spec.specs.Refusals.{first, fullSize}
+use Rattle.spec.specs.Refusals.{check, first, tooFewCells, fullSize}
 use Rattle.laws.proofs.Slices.{front-lent}
-use Rattle.laws.proofs.Refusals.{Sized, is-sized, picture-passed}
+use Rattle.laws.proofs.Refusals.{Sized, is-sized, picture-passed, written-not, written-all, by-output, after-output, by-cells, after-cells}
 use Rattle.gray.proofs.Taking.{Grown, grown}
-use Rattle.gray.proofs.Answering.{written-not, written-all, by-output, by-cells, by-rest, blur-pixels, blur-rest}
+use Rattle.gray.proofs.Answering.{blur-pixels, blur-rest}
 use Rattle.gray.proofs.same.sized.Statement.{statement}
 use Rattle.gray.proofs.same.sized.Tie as tie
 
@@ -42,7 +42,7 @@ returns c =
 returns-2 : tie.Need-returns-2
 returns-2 c =
     let start = c .before .before .before .before .before in
-    written-not _ _ _ _ _ 7 (blur-rest _ _ _ _ (start .pre .1) (c .before .if1 .left) ∙ by-output _ _ _ _ _ (c .if2 .taken)) (λ e. omega arith)
+    written-not _ _ _ _ _ 7 (blur-rest _ _ _ _ (start .pre .1) (c .before .if1 .left) ∙ by-output _ _ _ (c .if2 .taken)) (λ e. omega arith)
 
 add-full-width : tie.Need-add-full-width
 add-full-width c = omega (arith, sizes (c .before .before .before .before .before .before) .few)
@@ -61,7 +61,7 @@ returns-3 c =
     let start = c .before .before .before .before .before .before .before .before in
     let out = c .before .before .before in
     written-not _ _ _ _ _ 8
-    (blur-rest _ _ _ _ (start .pre .1) (out .before .if1 .left) ∙ by-cells _ _ _ _ _ (out .if2 .left) (omega (arith, c .if3 .taken, sizes start .size))) (λ e. omega arith)
+    (blur-rest _ _ _ _ (start .pre .1) (out .before .if1 .left) ∙ after-output _ _ _ (out .if2 .left) ∙ by-cells _ _ _ (omega (arith, c .if3 .taken, sizes start .size))) (λ e. omega arith)
 
 mul-row : tie.Need-mul-row
 mul-row c = search needs
@@ -122,9 +122,8 @@ returns-4 c =
     let run = c .before .before .before .before .before .run in
     let enough = c .before .before .before .before .before .before .before .before .before in
     let out = c .before .before .before .before .before .before .before .before .before .before .before .before in
-    let s = sizes start in
     written-all _ _ _ _ _
-    (blur-rest _ _ _ _ (start .pre .1) (out .before .if1 .left) ∙ by-rest _ _ _ _ [] (out .if2 .left) (omega (arith, enough .if3 .left, needed-is start)))
+    (blur-rest _ _ _ _ (start .pre .1) (out .before .if1 .left) ∙ after-output (check (tooFewCells (length (start .args .cells .now)) (2 * fullSize _ (picture (start .args .width) (start .args .height) (start .args .pixels .now)))) 8 ∷ []) _ _ (out .if2 .left) ∙ after-cells [] _ _ (omega (arith, enough .if3 .left, needed-is start)))
     _ _ (run .ensures)
     (front-lent _ _ (needed-is start) (run .last .1 .1 .1 .1 .1 .1 .1 .0) (start .args .cells .now) (run .kept .1 .1 .1 .1 .1 .1 .1 .0 ∙ part-long enough ∙ sym (needed-is start)))
     (same-length-2 c)

@@ -1,4 +1,4 @@
--- `gray::same::greys` meets its contract: each turn has the next grown row come, and writes one row of greys.
+-- `gray::same::gray_rows` meets its contract: each turn has the next grown row come, and writes one row of greys.
 -- Assumes nothing.
 use mathlib.Core.Path.{_≡_, sym, ap, subst, _∙_}
 use Prim.Native.Nat.{ℕ, _+_, _-_, _*_, _/_, _≤_, _<_}
@@ -8,16 +8,17 @@ use borrow.Author.Needs.{needs}
 use lib.ListN.{length, getD, take, drop}
 use Rattle.spec.specs.Recipe.{recipe, order}
 use Rattle.spec.specs.Picture.{fullWidth, fullHeight, fullRow}
-use Rattle.spec.specs.Gray.{gray, places, sameRow, sameGray}
+use Rattle.spec.specs.Gray.{places, sameRow, sameGray}
 use Rattle.laws.proofs.Numbers.{row-fits}
 use Rattle.laws.proofs.Slices.{Mixed, mixed-none, mixed-all, length-mixed, length-lent}
+use Rattle.laws.proofs.Refusals.{grown-most}
 use Rattle.laws.proofs.Rows.{length-rows, rows-more}
 use Rattle.gray.specs.Division.{Divides, Bounded}
 use Rattle.gray.specs.Streaming.{Streamed, pictureOf}
 use Rattle.gray.proofs.Driving.{is-due, has-come}
-use Rattle.gray.proofs.Taking.{long, middle-length, middle-bounded, middle-greys}
-use Rattle.gray.proofs.same.greys.Statement.{statement}
-use Rattle.gray.proofs.same.greys.Tie as tie
+use Rattle.gray.proofs.Taking.{long, taken-length, taken-bounded, taken-grays}
+use Rattle.gray.proofs.same.gray_rows.Statement.{statement}
+use Rattle.gray.proofs.same.gray_rows.Tie as tie
 
 abbrev Inv-loop : tie.InvT-loop
 Inv-loop by left pixels row₀ out₀ cells₀ width right at₀ from₀ j₀ j-end row out cells at from j =
@@ -37,7 +38,7 @@ sizes c =
     let t = c .pre .0 in
     let k = t .picture in (
       omega (arith, t .half),
-      omega (arith, k .recipe .rowReach, k .sides .width),
+      grown-most _ _ _ (k .recipe) (k .sides) .0,
       mul-le-mul (k .sides .height .1) (k .sides .width .1),
     )
 
@@ -133,8 +134,8 @@ round-row-requires c κs =
     let many : start .args .left + s .width - start .args .left ≡ s .width = omega arith in
     let bytes : (k : ℕ) → getD (p .pixels) k 0 ≤ 255 = λ k. omega (arith, c .before .before .before .before .before .before .before .before .before .before .before .before .before .before .before .shared-slice-known .given k) in (
       subst (λ w. Divides w by) (sym (d .is)) d,
-      subst (λ w. Bounded w (take (start .args .left + s .width - start .args .left) (drop (start .args .left) (row .next .last .1 .1 .0)))) (sym (d .is)) (middle-bounded r p _ _ (came row .1) (start .args .left) _ (start .pre .0 .half) many bytes),
-      middle-length r p _ _ (came row .1) (start .args .left) _ (start .pre .0 .half) many ∙ sym (length-lent (c .before .before .before .before .before .before .before .before .before .before .before .loop .from) (s .width) (c .before .before .before .before .before .before .before .before .before .before .before .loop .out) (inside (c .before .before .before .before .before .before .before .before .before .before))),
+      subst (λ w. Bounded w (take (start .args .left + s .width - start .args .left) (drop (start .args .left) (row .next .last .1 .1 .0)))) (sym (d .is)) (taken-bounded r p _ _ (came row .1) (start .args .left) _ (start .pre .0 .half) many bytes),
+      taken-length r p _ _ (came row .1) (start .args .left) _ (start .pre .0 .half) many ∙ sym (length-lent (c .before .before .before .before .before .before .before .before .before .before .before .loop .from) (s .width) (c .before .before .before .before .before .before .before .before .before .before .before .loop .out) (inside (c .before .before .before .before .before .before .before .before .before .before))),
     )
 
 add-j : tie.Need-add-j Inv-loop μ-loop
@@ -161,7 +162,7 @@ loop-again c =
     let many : left + s .width - left ≡ s .width = omega arith in
     let made =
     c .before .before .round-row .ensures
-    ∙ middle-greys r p _ _ (came next .1) left _ (start .pre .0 .half) many _ _ (start .pre .1 .is) (length-lent from (s .width) (turn .loop .out) (inside test)) in
+    ∙ taken-grays r p _ _ (came next .1) left _ (start .pre .0 .half) many _ _ (start .pre .1 .is) (length-lent from (s .width) (turn .loop .out) (inside test)) in
     let written =
     rows-more (s .width) (s .height) (λ j i. sameGray r p i j) 0 j from _ (turn .loop .inv .7) (turn .loop .inv .2) below (omega (arith, inside test, turn .loop .inv .4)) made in (
       turn .loop .inv .0,
@@ -191,8 +192,8 @@ returns c =
     let done : turn .loop .j ≡ s .height = omega (arith, turn .loop .inv .0, turn .loop .inv .1, c .loop-test .left) in
     mixed-all (turn .loop .inv .7) (omega (arith, turn .loop .inv .2, ap (λ k. k * s .width) done, mul-comm (s .height) (s .width), start .pre .2))
 
-pub greys-spec : {M : Type 1} → statement M
-greys-spec =
+pub gray-rows-spec : {M : Type 1} → statement M
+gray-rows-spec =
     tie.close
     (tie.spec
     Inv-loop

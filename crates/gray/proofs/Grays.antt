@@ -2,7 +2,7 @@
 -- Assumes nothing.
 use mathlib.Core.Path.{_≡_, sym, ap, ap₂, _∙_}
 use mathlib.Core.Bool.{Bool, false, cond}
-use mathlib.Core.List.{List}
+use mathlib.Core.List.{List, [], _∷_}
 use Prim.Native.Nat.{ℕ, _*_, _≤_}
 use native.Mathlib.Decide.{decLt}
 use native.Mathlib.Omega.{arith}
@@ -12,9 +12,9 @@ use borrow.Author.Tests.{ltb-false}
 use Rattle.spec.specs.Words.{tab}
 use Rattle.spec.specs.Recipe.{Recipe, gain}
 use Rattle.spec.specs.Gray.{gray, grays}
-use Rattle.spec.specs.Refusals.{check, first, otherOutput, otherPixels, tooBright, recipeChecks, roundChecks}
-use Rattle.laws.proofs.Lists.{nowhere}
-use Rattle.laws.proofs.Refusals.{first-rest, recipe-numbered, as-stated, not-stated, lent-refused, lent-accepted}
+use Rattle.spec.specs.Refusals.{check, first, otherOutput, tooBright, recipeChecks, roundChecks}
+use Rattle.laws.proofs.Lists.{tab-map, nowhere}
+use Rattle.laws.proofs.Refusals.{first-rest, recipe-numbered, by-output, after-output, lent-refused, lent-accepted}
 use Rattle.gray.specs.Division.{Bounded}
 use Rattle.gray.specs.Rounded.{Rounded}
 
@@ -36,21 +36,20 @@ module _ (r : Recipe) (sums out : List ℕ) where
 
   -- after 1 to 4
   module _ (none : first (recipeChecks r) ≡ 0) where
-    rest : number ≡ cond (otherOutput (length out) (length sums)) 7 (cond (tooBright (gain r) sums) 11 0)
-    unfolding roundChecks first check
+    rest : number ≡ first (check (otherOutput (length out) (length sums)) 7 ∷ check (tooBright (gain r) sums) 11 ∷ [])
+    unfolding roundChecks
     rest = first-rest (recipeChecks r) _ (recipe-numbered r) none
 
     pub by-length : (length out ≡ length sums → ⊥) → number ≡ 7
-    unfolding otherOutput otherPixels
-    by-length h = rest ∙ ap (λ b. cond b 7 (cond (tooBright (gain r) sums) 11 0)) (not-stated (length out) (length sums) h)
+    by-length h = rest ∙ by-output _ (length out) (length sums) h
 
     pub by-brightness : length out ≡ length sums → (b : Bool) → b ≡ tooBright (gain r) sums → number ≡ cond b 11 0
-    unfolding otherOutput otherPixels
-    by-brightness e b h = rest ∙ ap₂ (λ x y. cond x 7 (cond y 11 0)) (as-stated (length out) (length sums) e) (sym h)
+    unfolding first check
+    by-brightness e b h = rest ∙ after-output (check (tooBright (gain r) sums) 11 ∷ []) (length out) (length sums) e ∙ ap (λ y. cond y 11 0) (sym h)
 
   -- on a refusal nothing is written; otherwise all greys are
   pub round-refused : (n : ℕ) → number ≡ n → (n ≡ 0 → ⊥) → Rounded r sums out n out
-  round-refused n e h = record { answer = sym e; greys = sym (lent-refused _ _ out n e h) }
+  round-refused n e h = record { answer = sym e; grays = sym (lent-refused _ _ out n e h) }
 
   pub round-all : (weight : ℕ) (new : List ℕ) → number ≡ 0 → weight ≡ gain r → length sums ≡ length out
       → new ≡ tab (length out) (λ k. gray weight (getD sums k 0)) → Rounded r sums out 0 new
@@ -58,5 +57,9 @@ module _ (r : Recipe) (sums out : List ℕ) where
   round-all weight new e w l d =
       record {
         answer = sym e;
-        greys = d ∙ ap₂ (λ n g. tab n (λ k. gray g (getD sums k 0))) (sym l) w ∙ sym (lent-accepted _ (grays (gain r) sums) out e);
+        grays =
+            d
+            ∙ ap₂ (λ n g. tab n (λ k. gray g (getD sums k 0))) (sym l) w
+            ∙ tab-map (gray (gain r)) 0 sums
+            ∙ sym (lent-accepted _ (grays (gain r) sums) out e);
       }

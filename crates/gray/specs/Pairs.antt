@@ -11,17 +11,18 @@ use Rattle.filter.specs.declared.checks.Measures.{Measures}
 use Rattle.filter.proofs.Refusal.{Known}
 use Rattle.gray.specs.declared.rounding.Divisor.{Divisor}
 use Rattle.gray.specs.declared.pair.Pair.{Pair}
-use Rattle.gray.specs.declared.pair.Side.{Side}
+use Rattle.gray.specs.declared.pair.Operand.{Operand}
 use Rattle.gray.specs.Division.{Divides}
 use Rattle.gray.specs.Streaming.{Taken}
 
 -- Both one passes of the same picture stand before the first row that is taken, each with its own part of the cells.
-pub record BothTaken (pair : Pair) (a b : Side) (by : Divisor) (middle : ℕ) (pixels aRow bRow cells : List ℕ) : Type 0 where
+pub record BothTaken (pair : Pair) (a b : Operand) (by : Divisor) (middle : ℕ) (pixels aRow bRow cells : List ℕ) : Type 0 where
   pub first : Taken (pair .a) (a .left) pixels aRow (take middle cells)
   pub second : Taken (pair .b) (b .left) pixels bRow (drop middle cells)
   pub sameWidth : pair .b .width ≡ pair .a .width
   pub sameHeight : pair .b .height ≡ pair .a .height
   pub inside : middle ≤ length cells
+  -- twice the grown size, at most 1,279 by 1,279
   pub small : middle ≤ 2 ^ 22
   pub aGain : a .gain ≡ gain (recipe (pair .a .filter))
   pub bGain : b .gain ≡ gain (recipe (pair .b .filter))
