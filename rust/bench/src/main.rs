@@ -9,6 +9,9 @@
 mod convolution;
 mod direct;
 mod equivalent;
+mod gray_tables;
+mod gray_work;
+mod greys;
 mod passes;
 mod stream;
 mod timing;
@@ -192,4 +195,10 @@ fn main() {
     widths();
     println!();
     comparing();
+    println!();
+    gray_tables::same_size();
+    println!();
+    gray_tables::memory();
+    println!();
+    gray_tables::readings();
 }

@@ -60,14 +60,21 @@ fn column_box(n: usize, emitted: usize, out: &mut [u64], cells: &mut [u64]) {
     }
 }
 
-/// One grown row from the pixels of a row; a drain has none.
-fn next_row(work: &Work, emitted: usize, pixels: &[u8], out: &mut [u64], mut cells: &mut [u64]) {
+/// One grown row from the pixels of a row, for row widths and column widths; a
+/// drain has no pixels.
+pub fn next_row(
+    [rows, columns]: [&[u8]; 2],
+    emitted: usize,
+    pixels: &[u8],
+    out: &mut [u64],
+    mut cells: &mut [u64],
+) {
     let (left, right) = out.split_at_mut(pixels.len());
     for (out, &pixel) in left.iter_mut().zip(pixels) {
         *out = u64::from(pixel);
     }
     right.fill(0);
-    for &n in &work.rows {
+    for &n in rows {
         match usize::from(n) {
             1 => (),
             2 => {
@@ -77,7 +84,7 @@ fn next_row(work: &Work, emitted: usize, pixels: &[u8], out: &mut [u64], mut cel
             n => row_box(out, take(&mut cells, n)),
         }
     }
-    for &n in &work.columns {
+    for &n in columns {
         match usize::from(n) {
             1 => (),
             2 => column_pair(out, take(&mut cells, out.len())),
@@ -91,9 +98,10 @@ pub fn run(work: &mut Work) {
     let mut out = std::mem::take(&mut work.out);
     let mut cells = std::mem::take(&mut work.cells);
     cells[..work.needed].fill(0);
+    let lists = [&work.rows[..], &work.columns];
     let mut rows = work.pixels.chunks_exact(work.width);
     for (emitted, out) in out.chunks_exact_mut(full_width).enumerate() {
-        next_row(work, emitted, rows.next().unwrap_or(&[]), out, &mut cells);
+        next_row(lists, emitted, rows.next().unwrap_or(&[]), out, &mut cells);
     }
     work.out = out;
     work.cells = cells;

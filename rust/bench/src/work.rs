@@ -19,7 +19,7 @@ pub struct Work {
     pub needed: usize,
 }
 
-fn cascade(list: &[u8]) -> Cascade {
+pub fn cascade(list: &[u8]) -> Cascade {
     let mut widths = [0; 48];
     widths[..list.len()].copy_from_slice(list);
     Cascade {
@@ -29,7 +29,7 @@ fn cascade(list: &[u8]) -> Cascade {
 }
 
 /// The sum of (n - 1) over a list.
-fn reach(list: &[u8]) -> usize {
+pub fn reach(list: &[u8]) -> usize {
     list.iter().map(|&n| usize::from(n) - 1).sum()
 }
 

@@ -47,6 +47,24 @@ pub struct State {
     pub emitted: usize,
 }
 
+/// Which value a reading gives (document 01: the grey, the exact sum or the
+/// quotient, by choice).
+#[derive(Clone, Copy, Debug, PartialEq, Eq)]
+pub enum Quantity {
+    Gray,
+    Sum,
+    Mean,
+}
+
+/// The value that a reading gives: the grey, the exact sum, or the quotient of
+/// sum and weight.
+#[derive(Clone, Copy, Debug, PartialEq)]
+pub enum Sample {
+    Gray(u8),
+    Sum(u64),
+    Mean(f64),
+}
+
 /// Whether a filter is accepted; refusals 1 to 4.
 pub fn check(filter: &Filter) -> u8 {
     let Filter { rows, columns } = filter;
@@ -194,4 +212,104 @@ pub fn push(
 /// becomes the count of additions and subtractions; refusals 9, 10, then 7, 8.
 pub fn drain(state: &mut State, out: &mut [u64], cells: &mut [u64], count: &mut u64) -> u8 {
     raw::drain(state, out, cells, count)
+}
+
+/// The greys of a row of sums (document 01: rounding), in an output of the same
+/// length; refusals 1 to 4, then 7, 11.
+pub fn round(filter: &Filter, sums: &[u64], out: &mut [u8]) -> u8 {
+    raw::round(filter, sums, out)
+}
+
+/// The greys of the picture's own places (document 01: the same-size blur), in
+/// an output of exactly the picture's size and with work cells of at least twice
+/// the grown size; refusals 1 to 8.
+pub fn blur(
+    filter: &Filter,
+    width: usize,
+    height: usize,
+    pixels: &[u8],
+    out: &mut [u8],
+    cells: &mut [u64],
+) -> u8 {
+    raw::blur(filter, width, height, pixels, out, cells)
+}
+
+/// The rounded differences of `a` and `b` at the picture's own places, in an
+/// output of exactly the picture's size and with work cells of at least twice
+/// both grown sizes together; refusals 1 to 4 of `a`, those of `b`, then 5 to 8,
+/// 12, 13.
+pub fn difference(
+    a: &Filter,
+    b: &Filter,
+    width: usize,
+    height: usize,
+    pixels: &[u8],
+    out: &mut [i16],
+    cells: &mut [u64],
+) -> u8 {
+    raw::difference(a, b, width, height, pixels, out, cells)
+}
+
+/// The reading at one place of the picture, a column and a row, by choice. The
+/// sum is the one that the blur takes there; refusals 1 to 6, then 15.
+pub fn sample(
+    filter: &Filter,
+    width: usize,
+    height: usize,
+    pixels: &[u8],
+    place: (usize, usize),
+    quantity: Quantity,
+    sample: &mut Sample,
+) -> u8 {
+    let (mut gray, mut sum, mut mean) = (0, 0, 0.0);
+    let number = match quantity {
+        Quantity::Gray => sample_gray(filter, width, height, pixels, place, &mut gray),
+        Quantity::Sum => sample_sum(filter, width, height, pixels, place, &mut sum),
+        Quantity::Mean => sample_mean(filter, width, height, pixels, place, &mut mean),
+    };
+    if number == 0 {
+        *sample = match quantity {
+            Quantity::Gray => Sample::Gray(gray),
+            Quantity::Sum => Sample::Sum(sum),
+            Quantity::Mean => Sample::Mean(mean),
+        };
+    }
+    number
+}
+
+/// The reading of the grey alone; refusals as for `sample`.
+pub fn sample_gray(
+    filter: &Filter,
+    width: usize,
+    height: usize,
+    pixels: &[u8],
+    place: (usize, usize),
+    gray: &mut u8,
+) -> u8 {
+    raw::sample_gray(filter, width, height, pixels, place, gray)
+}
+
+/// The reading of the exact sum alone; refusals as for `sample`.
+pub fn sample_sum(
+    filter: &Filter,
+    width: usize,
+    height: usize,
+    pixels: &[u8],
+    place: (usize, usize),
+    sum: &mut u64,
+) -> u8 {
+    raw::sample_sum(filter, width, height, pixels, place, sum)
+}
+
+/// The reading of the quotient of sum and weight alone; refusals as for
+/// `sample`.
+pub fn sample_mean(
+    filter: &Filter,
+    width: usize,
+    height: usize,
+    pixels: &[u8],
+    place: (usize, usize),
+    mean: &mut f64,
+) -> u8 {
+    raw::sample_mean(filter, width, height, pixels, place, mean)
 }

@@ -145,6 +145,93 @@ unsafe extern "C" {
         cells_len: usize,
         count: &mut u64,
     ) -> u8;
+
+    fn bore_round(
+        row_count: u8,
+        rows: &[u8; 48],
+        column_count: u8,
+        columns: &[u8; 48],
+        sums: *const u64,
+        sums_len: usize,
+        out: *mut u8,
+        out_len: usize,
+    ) -> u8;
+
+    fn bore_blur(
+        row_count: u8,
+        rows: &[u8; 48],
+        column_count: u8,
+        columns: &[u8; 48],
+        width: usize,
+        height: usize,
+        pixels: *const u8,
+        pixels_len: usize,
+        out: *mut u8,
+        out_len: usize,
+        cells: *mut u64,
+        cells_len: usize,
+    ) -> u8;
+
+    fn bore_difference(
+        a_row_count: u8,
+        a_rows: &[u8; 48],
+        a_column_count: u8,
+        a_columns: &[u8; 48],
+        b_row_count: u8,
+        b_rows: &[u8; 48],
+        b_column_count: u8,
+        b_columns: &[u8; 48],
+        width: usize,
+        height: usize,
+        pixels: *const u8,
+        pixels_len: usize,
+        out: *mut i16,
+        out_len: usize,
+        cells: *mut u64,
+        cells_len: usize,
+    ) -> u8;
+
+    fn bore_sample_gray(
+        row_count: u8,
+        rows: &[u8; 48],
+        column_count: u8,
+        columns: &[u8; 48],
+        width: usize,
+        height: usize,
+        pixels: *const u8,
+        pixels_len: usize,
+        column: usize,
+        row: usize,
+        gray: &mut u8,
+    ) -> u8;
+
+    fn bore_sample_sum(
+        row_count: u8,
+        rows: &[u8; 48],
+        column_count: u8,
+        columns: &[u8; 48],
+        width: usize,
+        height: usize,
+        pixels: *const u8,
+        pixels_len: usize,
+        column: usize,
+        row: usize,
+        sum: &mut u64,
+    ) -> u8;
+
+    fn bore_sample_mean(
+        row_count: u8,
+        rows: &[u8; 48],
+        column_count: u8,
+        columns: &[u8; 48],
+        width: usize,
+        height: usize,
+        pixels: *const u8,
+        pixels_len: usize,
+        column: usize,
+        row: usize,
+        mean: &mut f64,
+    ) -> u8;
 }
 
 pub fn kernel(count: u8, widths: &[u8; 48], out: &mut [u64]) -> u8 {
@@ -290,4 +377,165 @@ pub fn drain(state: &mut State, out: &mut [u64], cells: &mut [u64], count: &mut 
             count,
         )
     }
+}
+
+pub fn round(filter: &Filter, sums: &[u64], out: &mut [u8]) -> u8 {
+    // SAFETY: each pointer and the length after it are those of one slice; the
+    // one that is written is lent to this call alone.
+    unsafe {
+        bore_round(
+            filter.rows.count,
+            &filter.rows.widths,
+            filter.columns.count,
+            &filter.columns.widths,
+            sums.as_ptr(),
+            sums.len(),
+            out.as_mut_ptr(),
+            out.len(),
+        )
+    }
+}
+
+pub fn blur(
+    filter: &Filter,
+    width: usize,
+    height: usize,
+    pixels: &[u8],
+    out: &mut [u8],
+    cells: &mut [u64],
+) -> u8 {
+    // SAFETY: each pointer and the length after it are those of one slice; the
+    // two that are written are lent to this call alone.
+    unsafe {
+        bore_blur(
+            filter.rows.count,
+            &filter.rows.widths,
+            filter.columns.count,
+            &filter.columns.widths,
+            width,
+            height,
+            pixels.as_ptr(),
+            pixels.len(),
+            out.as_mut_ptr(),
+            out.len(),
+            cells.as_mut_ptr(),
+            cells.len(),
+        )
+    }
+}
+
+pub fn difference(
+    a: &Filter,
+    b: &Filter,
+    width: usize,
+    height: usize,
+    pixels: &[u8],
+    out: &mut [i16],
+    cells: &mut [u64],
+) -> u8 {
+    // SAFETY: each pointer and the length after it are those of one slice; the
+    // two that are written are lent to this call alone.
+    unsafe {
+        bore_difference(
+            a.rows.count,
+            &a.rows.widths,
+            a.columns.count,
+            &a.columns.widths,
+            b.rows.count,
+            &b.rows.widths,
+            b.columns.count,
+            &b.columns.widths,
+            width,
+            height,
+            pixels.as_ptr(),
+            pixels.len(),
+            out.as_mut_ptr(),
+            out.len(),
+            cells.as_mut_ptr(),
+            cells.len(),
+        )
+    }
+}
+
+/// The type of the library's readings, which differ in the value they write.
+type Reading<T> = unsafe extern "C" fn(
+    row_count: u8,
+    rows: &[u8; 48],
+    column_count: u8,
+    columns: &[u8; 48],
+    width: usize,
+    height: usize,
+    pixels: *const u8,
+    pixels_len: usize,
+    column: usize,
+    row: usize,
+    value: &mut T,
+) -> u8;
+
+/// Makes a reading.
+///
+/// # Safety
+///
+/// The call has to be one of the library's.
+unsafe fn read<T>(
+    call: Reading<T>,
+    filter: &Filter,
+    width: usize,
+    height: usize,
+    pixels: &[u8],
+    (column, row): (usize, usize),
+    value: &mut T,
+) -> u8 {
+    // SAFETY: the pointer and the length are those of one slice.
+    unsafe {
+        call(
+            filter.rows.count,
+            &filter.rows.widths,
+            filter.columns.count,
+            &filter.columns.widths,
+            width,
+            height,
+            pixels.as_ptr(),
+            pixels.len(),
+            column,
+            row,
+            value,
+        )
+    }
+}
+
+pub fn sample_gray(
+    filter: &Filter,
+    width: usize,
+    height: usize,
+    pixels: &[u8],
+    place: (usize, usize),
+    gray: &mut u8,
+) -> u8 {
+    // SAFETY: the call is one of the library's.
+    unsafe { read(bore_sample_gray, filter, width, height, pixels, place, gray) }
+}
+
+pub fn sample_sum(
+    filter: &Filter,
+    width: usize,
+    height: usize,
+    pixels: &[u8],
+    place: (usize, usize),
+    sum: &mut u64,
+) -> u8 {
+    // SAFETY: the call is one of the library's.
+    unsafe { read(bore_sample_sum, filter, width, height, pixels, place, sum) }
+}
+
+pub fn sample_mean(
+    filter: &Filter,
+    width: usize,
+    height: usize,
+    pixels: &[u8],
+    place: (usize, usize),
+    mean: &mut f64,
+) -> u8 {
+    // SAFETY: the call is one of the library's.
+    unsafe { read(bore_sample_mean, filter, width, height, pixels, place, mean) }
 }

@@ -5,7 +5,7 @@
 
 mod common;
 
-use common::{agree, each_case, list_of, Case};
+use common::{agree, count, each_case, list_of, Case};
 use reference::random::Random;
 
 /// A side of a picture: at a limit, far beyond it, or any accepted one.
@@ -101,9 +101,7 @@ fn random_cases_meet_every_limit() {
             number == 0 && recipe.columns.len() == 48,
             number == 4 && weight >= 1 << 64,
         ];
-        for (count, met) in limits.iter_mut().zip(met) {
-            *count += usize::from(met);
-        }
+        count(&mut limits, met);
     }
     assert!(numbers.iter().all(|&count| count >= 200), "{numbers:?}");
     assert!(limits.iter().all(|&count| count >= 10), "{limits:?}");

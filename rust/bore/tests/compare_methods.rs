@@ -6,9 +6,9 @@
 mod common;
 
 use common::agree_methods;
-use common::pictures::{any_cells, any_length, any_picture, any_sides, picture_case, Picture};
+use common::pictures::{any_cells, any_length, larger_picture, pictured, Picture, LIGHT};
 use common::three::three_methods;
-use common::{each_seed, Case};
+use common::{count, each_seed, Case};
 use reference::random::Random;
 use reference::Recipe;
 
@@ -25,23 +25,20 @@ fn right_lengths(random: &mut Random, recipe: &Recipe, picture: &Picture) -> [us
 }
 
 /// The case of a seed with a picture, and the right lengths for it.
-fn pictured(seed: u64) -> (Case, Random, Picture, [usize; 3]) {
-    let (case, mut random) = picture_case(seed);
-    let recipe = case.recipe();
-    let (width, height) = any_sides(&mut random, &recipe);
-    let picture = any_picture(&mut random, width, height);
-    let lengths = right_lengths(&mut random, &recipe, &picture);
+fn with_lengths(seed: u64) -> (Case, Random, Picture, [usize; 3]) {
+    let (case, mut random, picture) = pictured(seed);
+    let lengths = right_lengths(&mut random, &case.recipe(), &picture);
     (case, random, picture, lengths)
 }
 
 fn direct(seed: u64) -> u8 {
-    let (case, mut random, picture, right) = pictured(seed);
+    let (case, mut random, picture, right) = with_lengths(seed);
     let lengths = right.map(|length| any_length(&mut random, length));
     agree_methods::direct(&case, &mut random, &picture, lengths)
 }
 
 fn passes(seed: u64) -> u8 {
-    let (case, mut random, picture, [_, _, size]) = pictured(seed);
+    let (case, mut random, picture, [_, _, size]) = with_lengths(seed);
     let lengths = [any_length(&mut random, size), any_cells(&mut random, size)];
     agree_methods::passes(&case, &mut random, &picture, lengths)
 }
@@ -60,18 +57,6 @@ fn passes_agree() {
     });
 }
 
-/// Light recipes for larger pictures.
-const LIGHT: [(&[u8], &[u8]); 8] = [
-    (&[], &[]),
-    (&[2], &[]),
-    (&[], &[2, 1]),
-    (&[2], &[2]),
-    (&[3], &[2]),
-    (&[1, 2], &[3]),
-    (&[4], &[1]),
-    (&[1], &[2, 2]),
-];
-
 /// All three methods on pictures with sides up to 1,024.
 #[test]
 fn larger_pictures_agree() {
@@ -79,12 +64,11 @@ fn larger_pictures_agree() {
         let mut random = Random::new(seed);
         let (rows, columns) = random.one_of(&LIGHT);
         let filter = common::filter(rows, columns);
-        let most = random.one_of(&[200, 500, 1024]);
-        let any = random.between(1, most);
-        let other = random.between(1, most);
-        let width = random.one_of(&[1, any, any, 1023, 1024]);
-        let height = random.one_of(&[1, other, other, 1023, 1024]);
-        let pixels = random.pixels(width * height);
+        let Picture {
+            width,
+            height,
+            pixels,
+        } = larger_picture(&mut random);
         let expected = reference::exact_sums(&Recipe::new(rows, columns), width, height, &pixels);
         let found = three_methods(&filter, width, height, &pixels);
         let note = format_args!("seed {seed}, {width} by {height}, {rows:?}, {columns:?}");
@@ -105,7 +89,7 @@ fn random_cases_meet_every_number_and_limit() {
         if number > 0 {
             continue;
         }
-        let (case, _, picture, _) = pictured(seed);
+        let (case, _, picture) = pictured(seed);
         let Recipe { rows, columns } = case.recipe();
         let wider = |list: &[u8], side| list.iter().any(|&n| usize::from(n) > side);
         let met = [
@@ -119,9 +103,7 @@ fn random_cases_meet_every_number_and_limit() {
             (picture.width, picture.height) == (1, 1),
             rows.is_empty() && columns.is_empty(),
         ];
-        for (count, met) in limits.iter_mut().zip(met) {
-            *count += usize::from(met);
-        }
+        count(&mut limits, met);
     }
     // The direct method has no 8.
     assert_eq!(numbers[0][8], 0);

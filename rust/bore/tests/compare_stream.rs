@@ -10,7 +10,7 @@ use common::agree_stream::{start, state_of, without_sums, Call, Run};
 use common::lent::Lent;
 use common::pictures::{accepted_sides, any_cells, any_length, any_sides};
 use common::pictures::{picture_case, refused_side};
-use common::{damage, each_seed, recipe_of, refilled, Case};
+use common::{count, damage, each_seed, meets, recipe_of, refilled, Case};
 use reference::random::Random;
 use reference::Recipe;
 
@@ -70,9 +70,7 @@ impl Met {
             ring(&|n| e >= n),
             ring(&|_| e >= state.height),
         ];
-        for (count, met) in self.stages.iter_mut().zip(met) {
-            *count += usize::from(met);
-        }
+        count(&mut self.stages, met);
     }
 
     /// The limits that a list has met, with this many cells beyond the needed.
@@ -98,9 +96,7 @@ impl Met {
             more_cells == 0 && reference::list_cells(columns) > 0,
             more_cells > 0 && reference::list_cells(columns) > 0,
         ];
-        for (count, met) in self.limits.iter_mut().zip(met) {
-            *count += usize::from(met);
-        }
+        count(&mut self.limits, met);
     }
 }
 
@@ -302,15 +298,6 @@ fn is_refused(state: &State, call: &Call) -> bool {
         None => reference::drain_refusal(&state, call.out, call.cells),
     };
     result.is_err()
-}
-
-/// Whether just these numbers were met, each of them ten times or more.
-fn meets(counts: &[usize], numbers: &[usize]) -> bool {
-    let rightly = |(number, &count): (usize, &usize)| match numbers.contains(&number) {
-        true => count >= 10,
-        false => count == 0,
-    };
-    counts.iter().enumerate().all(rightly)
 }
 
 #[test]

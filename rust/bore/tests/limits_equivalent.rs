@@ -7,7 +7,8 @@ mod common;
 use bore::{Cascade, Filter};
 use common::accepted::{equal, moments};
 use common::agree::Answer;
-use common::{agree, filter, from_bits, list_of_reach, on_axis, shuffled, with_refusals};
+use common::causes::{from_bits, with_refusals};
+use common::{agree, filter, list_of_reach, on_axis, shuffled};
 use common::{Case, ABOVE, BELOW, WRAPPED};
 use reference::random::Random;
 

@@ -4,8 +4,9 @@
 mod common;
 
 use bore::{Cascade, Filter};
-use common::{agree, filter, from_bits, list_of, list_of_reach, refilled, shuffled};
-use common::{with_refusals, Case, ABOVE, BELOW, EQUAL, WRAPPED};
+use common::causes::{from_bits, with_refusals};
+use common::{agree, filter, list_of, list_of_reach, refilled, shuffled};
+use common::{Case, ABOVE, BELOW, EQUAL, WRAPPED};
 use reference::random::Random;
 
 /// Widths and heights at the limits and far beyond them.

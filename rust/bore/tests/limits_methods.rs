@@ -6,9 +6,10 @@ mod common;
 use bore::{Filter, State};
 use common::agree_methods::{direct, passes};
 use common::agree_stream::{start, without_sums, Call, Run};
+use common::causes::{first, from_bits, with_refusals};
 use common::lent::Lent;
-use common::pictures::Picture;
-use common::{any_state, filter, from_bits, refilled, with_refusals, Case};
+use common::pictures::{Picture, REFUSED};
+use common::{any_state, filter, refilled, Case};
 use reference::random::Random;
 
 /// Rows 2,3 and columns 2,2. On a picture 5 by 3: R has 4 numbers, C has 3, a
@@ -16,31 +17,6 @@ use reference::random::Random;
 /// (1 + 3) + 8 times (1 + 1) = 20 cells, and a call costs 8 times 5.
 fn both() -> Filter {
     filter(&[2, 3], &[2, 2])
-}
-
-/// Sides of which one is refused. The product of some is 0, 1 or 15 modulo
-/// 2^64.
-const REFUSED: [(usize, usize); 12] = [
-    (0, 0),
-    (0, 3),
-    (5, 0),
-    (1025, 3),
-    (5, 1025),
-    (1025, 1025),
-    (usize::MAX, 3),
-    (5, usize::MAX),
-    (usize::MAX, usize::MAX),
-    (1 << 32, 1 << 32),
-    (5, (1 << 63) + 3),
-    (15, 1 << 60),
-];
-
-fn picture(random: &mut Random, width: usize, height: usize, pixels: usize) -> Picture {
-    Picture {
-        width,
-        height,
-        pixels: random.pixels(pixels),
-    }
 }
 
 /// A state of `both` on a picture 5 by 3.
@@ -75,16 +51,6 @@ fn call_on(random: &mut Random, state: State, pixels: Option<usize>, lengths: [u
     run.call(random, &mut without_sums(), &call, format_args!("a limit"))
 }
 
-/// The number of the first cause that applies.
-fn first<const N: usize>(wished: [bool; N], numbers: [u8; N]) -> u8 {
-    let causes = wished.into_iter().zip(numbers);
-    causes
-        .filter(|cause| cause.0)
-        .map(|cause| cause.1)
-        .next()
-        .unwrap_or(0)
-}
-
 #[test]
 fn direct_refuses_in_order() {
     let mut random = Random::new(1);
@@ -107,14 +73,14 @@ fn direct_refuses_in_order() {
         ([0, 4, 3, 40], 6),
         ([40, 0, 0, 0], 6),
     ] {
-        let picture = picture(&mut random, 5, 3, pixels);
+        let picture = Picture::random(&mut random, 5, 3, pixels);
         let found = direct(&case, &mut random, &picture, [r, c, out]);
         assert_eq!(found, number, "{pixels} pixels, lengths {r}, {c}, {out}");
     }
     for (width, height) in REFUSED {
         for lengths in [[4, 3, 40], [0, 0, 0]] {
             for pixels in [0, 1, 15] {
-                let picture = picture(&mut random, width, height, pixels);
+                let picture = Picture::random(&mut random, width, height, pixels);
                 let found = direct(&case, &mut random, &picture, lengths);
                 assert_eq!(found, 5, "{width} by {height}");
             }
@@ -141,14 +107,14 @@ fn passes_refuse_in_order() {
         ([16, 40, 40], 6),
         ([0, 0, 0], 6),
     ] {
-        let picture = picture(&mut random, 5, 3, pixels);
+        let picture = Picture::random(&mut random, 5, 3, pixels);
         let found = passes(&case, &mut random, &picture, [out, cells]);
         assert_eq!(found, number, "{pixels} pixels, lengths {out}, {cells}");
     }
     for (width, height) in REFUSED {
         for lengths in [[40, 40], [0, 0]] {
             for pixels in [0, 1, 15] {
-                let picture = picture(&mut random, width, height, pixels);
+                let picture = Picture::random(&mut random, width, height, pixels);
                 let found = passes(&case, &mut random, &picture, lengths);
                 assert_eq!(found, 5, "{width} by {height}");
             }
@@ -191,7 +157,7 @@ fn the_lowest_of_several_refusals_wins() {
         } else {
             width
         };
-        let given = picture(&mut random, width, height, if pixels { 3 } else { 4 });
+        let given = Picture::random(&mut random, width, height, if pixels { 3 } else { 4 });
         let out = if output { random.one_of(&[3, 5]) } else { 4 };
         let cells = if few { random.between(0, 3) } else { 4 };
         let found = passes(&case, &mut random, &given, [out, cells]);

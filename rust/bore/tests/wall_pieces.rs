@@ -1,12 +1,12 @@
 //! The fixed cases of document 01 ("Wall pieces to try", "Mistakes that look
-//! harmless") that concern the calls on a filter, the comparing call and the
-//! exact sums, these by all three methods, and the triangle of source document
-//! 001.
+//! harmless") that concern the calls on a filter, the comparing call, the exact
+//! sums, these by all three methods, greys, differences and readings, and the
+//! triangle of source document 001.
 
 mod common;
 
-use bore::Filter;
-use common::accepted::{equal, moments};
+use bore::{Filter, Quantity, Sample};
+use common::accepted::{blur, difference, equal, moments, round, sample};
 use common::three::three_methods;
 use common::{cascade, filter};
 
@@ -198,9 +198,45 @@ fn three_by_three_of_a_hundred() {
 }
 
 #[test]
+fn greys_of_three_by_three_of_a_hundred() {
+    let twos = filter(&[2, 2], &[2, 2]);
+    let pixels = [100; 9];
+    let grays = blur(&twos, 3, 3, &pixels);
+    assert_eq!(grays, [56, 75, 56, 75, 100, 75, 56, 75, 56]);
+    let read = |place, quantity| sample(&twos, 3, 3, &pixels, place, quantity);
+    assert_eq!(read((0, 0), Quantity::Sum), Sample::Sum(900));
+    assert_eq!(read((2, 2), Quantity::Sum), Sample::Sum(900));
+    for (place, gray) in [((0, 0), 56), ((1, 0), 75), ((0, 1), 75), ((1, 1), 100)] {
+        assert_eq!(read(place, Quantity::Gray), Sample::Gray(gray));
+    }
+}
+
+#[test]
 fn one_two_on_two_pixels() {
     assert_eq!(sums(&[2], &[], 2, 1, &[1, 0]), [1, 1, 0]);
     assert_eq!(sums(&[], &[2], 1, 2, &[1, 0]), [1, 1, 0]);
+    assert_eq!(blur(&filter(&[2], &[]), 2, 1, &[1, 0]), [1, 1]);
+    assert_eq!(blur(&filter(&[], &[2]), 1, 2, &[1, 0]), [1, 1]);
+}
+
+#[test]
+fn difference_of_one_pixel() {
+    let empty = filter(&[], &[]);
+    for twos in [filter(&[2, 2], &[]), filter(&[], &[2, 2])] {
+        assert_eq!(difference([&empty, &twos], 1, 1, &[255]), [128]);
+        assert_eq!(difference([&twos, &empty], 1, 1, &[255]), [-128]);
+        let mean = sample(&twos, 1, 1, &[255], (0, 0), Quantity::Mean);
+        assert_eq!(mean, Sample::Mean(127.5));
+    }
+}
+
+/// Rounding both blurs before the difference gives 127, and not 128.
+#[test]
+fn blurs_are_not_rounded_before_the_difference() {
+    let [a, b] = [filter(&[], &[]), filter(&[2, 2], &[])];
+    let [gray_a, gray_b] = [&a, &b].map(|filter| i16::from(blur(filter, 1, 1, &[255])[0]));
+    assert_eq!(gray_a - gray_b, 127);
+    assert_eq!(difference([&a, &b], 1, 1, &[255]), [128]);
 }
 
 /// Sums are not rounded after each box: 1 2 1 and not 1 1 1 times a weight.
@@ -208,6 +244,19 @@ fn one_two_on_two_pixels() {
 fn no_box_is_rounded() {
     assert_eq!(sums(&[2, 2], &[], 1, 1, &[1]), [1, 2, 1]);
     assert_eq!(sums(&[3, 3], &[], 2, 1, &[1, 1]), [1, 3, 5, 5, 3, 1]);
+}
+
+/// Rounding after each box gives the greys 1 1 1, and not 0 1 0.
+#[test]
+fn greys_are_rounded_once() {
+    let mut values = vec![1];
+    for n in [2, 2] {
+        let boxed = sums(&[n], &[], values.len(), 1, &values);
+        values = round(&filter(&[n], &[]), &boxed);
+    }
+    assert_eq!(values, [1, 1, 1]);
+    let grown = sums(&[2, 2], &[], 1, 1, &[1]);
+    assert_eq!(round(&filter(&[2, 2], &[]), &grown), [0, 1, 0]);
 }
 
 /// The black places of a row are through before the next row starts: 1 1 / 1 1
@@ -245,6 +294,12 @@ fn the_largest_sum() {
     assert_eq!(found.iter().max(), Some(&(255 << 44)));
     let row = sums(&[2; 44], &[], 45, 1, &[255; 45]);
     assert_eq!(row[44], 255 << 44);
+    let twos = filter(&[2; 22], &[2; 22]);
+    assert_eq!(
+        round(&twos, &[255 << 44, 1 << 43, (1 << 43) - 1]),
+        [255, 1, 0]
+    );
+    assert_eq!(bore::round(&twos, &[(255 << 44) + 1], &mut [7]), 11);
 }
 
 #[test]

@@ -102,6 +102,16 @@ fn nearest(numerator: i128, denominator: i128) -> i128 {
     size * numerator.signum()
 }
 
+/// (sum_a times weight_b - sum_b times weight_a) over weight_a times weight_b,
+/// rounded to the nearest whole number, a half away from zero. Each sum is at
+/// most 255 times its weight.
+pub fn difference_of_sums(sum_a: u64, weight_a: u64, sum_b: u64, weight_b: u64) -> i16 {
+    let [sum_a, weight_a, sum_b, weight_b] = [sum_a, weight_a, sum_b, weight_b].map(i128::from);
+    let numerator = sum_a * weight_b - sum_b * weight_a;
+    let value = nearest(numerator, weight_a * weight_b);
+    i16::try_from(value).expect("a difference is from -255 to 255")
+}
+
 /// The difference of recipes `a` and `b` on one picture: the refusals 1 to 4 of
 /// `a`, those of `b`, then 5, 6, 7, 8, 12, 13.
 pub fn difference(
@@ -123,15 +133,12 @@ pub fn difference(
         return Err(8);
     }
     check_pair(a, b)?;
-    let weight_a = i128::from(accepted_weight(a));
-    let weight_b = i128::from(accepted_weight(b));
+    let (weight_a, weight_b) = (accepted_weight(a), accepted_weight(b));
     let sums_a = same_size_sums(a, w, h, pixels);
     let sums_b = same_size_sums(b, w, h, pixels);
     let mut out = Vec::new();
     for (sum_a, sum_b) in sums_a.into_iter().zip(sums_b) {
-        let numerator = i128::from(sum_a) * weight_b - i128::from(sum_b) * weight_a;
-        let value = nearest(numerator, weight_a * weight_b);
-        out.push(i16::try_from(value).expect("a difference is from -255 to 255"));
+        out.push(difference_of_sums(sum_a, weight_a, sum_b, weight_b));
     }
     Ok(out)
 }

@@ -19,8 +19,8 @@ pub mod stream;
 pub mod triangle;
 
 pub use greys::{
-    difference, difference_cells, grey, reading, round_row, same_size_blur, same_size_cells,
-    Choice, Reading,
+    difference, difference_cells, difference_of_sums, grey, reading, round_row, same_size_blur,
+    same_size_cells, Choice, Reading,
 };
 pub use job::{boresums, job_length, read_job, write_job, Job, PROGRAM_BYTES, PROGRAM_CELLS};
 pub use picture::{check_picture, direct, exact_sums, grown_size, pass_by_pass, DirectOutput};

@@ -13,16 +13,36 @@ pub struct Lent<T> {
     length: usize,
 }
 
-impl Lent<u64> {
-    /// Random words, `length` of them to be lent.
-    pub fn words(random: &mut Random, length: usize) -> Lent<u64> {
+impl<T> Lent<T> {
+    /// Values made of random words, `length` of them to be lent.
+    fn drawn(random: &mut Random, length: usize, value: fn(u64) -> T) -> Lent<T> {
         let (from, after) = (random.between(1, 3), random.between(1, 3));
-        let all = (0..from + length + after).map(|_| random.word()).collect();
+        let words = (0..from + length + after).map(|_| random.word());
+        let all = words.map(value).collect();
         Lent { all, from, length }
     }
 }
 
+impl Lent<u64> {
+    /// Random words, `length` of them to be lent.
+    pub fn words(random: &mut Random, length: usize) -> Lent<u64> {
+        Lent::drawn(random, length, |word| word)
+    }
+}
+
+impl Lent<i16> {
+    /// Random signed numbers, `length` of them to be lent.
+    pub fn signed(random: &mut Random, length: usize) -> Lent<i16> {
+        Lent::drawn(random, length, |word| word as i16)
+    }
+}
+
 impl Lent<u8> {
+    /// Random bytes, `length` of them to be lent.
+    pub fn any_bytes(random: &mut Random, length: usize) -> Lent<u8> {
+        Lent::drawn(random, length, |word| word as u8)
+    }
+
     /// These bytes to be lent, in the middle of random ones.
     pub fn bytes(random: &mut Random, bytes: &[u8]) -> Lent<u8> {
         let (from, after) = (random.between(1, 8), random.between(1, 8));

@@ -1,11 +1,12 @@
 //! What the comparison tests share: the change from the library's form of a
 //! filter to the reference's, many random filters near all limits, in
-//! `pictures` random pictures, in `pairs` and `near_misses` pairs of recipes,
-//! and the comparison of each call with the reference: in `agree` the calls on
-//! filters, in `agree_methods` direct and pass by pass, in `agree_stream` the
-//! one pass, whose work cells `cells` models. `accepted` has calls on accepted
-//! filters for tests of their answers alone, `three` all three methods for tests
-//! of the sums alone.
+//! `pictures` random pictures, in `pairs` and `near_misses` pairs of recipes, in
+//! `causes` refusals on purpose, and the comparison of each call with the
+//! reference: in `agree` the calls on filters, in `agree_methods` direct and
+//! pass by pass, in `agree_stream` the one pass, whose work cells `cells`
+//! models, in `agree_greys` rounding, blur, difference and readings. `accepted`
+//! has calls that have to be accepted for tests of their answers alone, `three`
+//! all three methods for tests of the sums alone.
 //!
 //! The environment sets the random cases: BORE_CASES is their number for each
 //! test, BORE_SEED the seed of the first; each case has the next seed. A test
@@ -16,8 +17,10 @@
 
 pub mod accepted;
 pub mod agree;
+pub mod agree_greys;
 pub mod agree_methods;
 pub mod agree_stream;
+pub mod causes;
 pub mod cells;
 pub mod lent;
 pub mod near_misses;
@@ -146,6 +149,22 @@ pub fn each_case(mut compare: impl FnMut(&Case, &mut Random)) {
         let (case, mut random) = Case::random(seed);
         compare(&case, &mut random);
     });
+}
+
+/// Adds one to each count whose condition is met.
+pub fn count<const N: usize>(counts: &mut [usize; N], met: [bool; N]) {
+    for (count, met) in counts.iter_mut().zip(met) {
+        *count += usize::from(met);
+    }
+}
+
+/// Whether just these numbers were met, each of them ten times or more.
+pub fn meets(counts: &[usize], numbers: &[usize]) -> bool {
+    let rightly = |(number, &count): (usize, &usize)| match numbers.contains(&number) {
+        true => count >= 10,
+        false => count == 0,
+    };
+    counts.iter().enumerate().all(rightly)
 }
 
 /// Fills what stands past the count: all bytes random, or all 0, or all 255.
@@ -323,33 +342,4 @@ pub fn list_of_reach(random: &mut Random, wanted: usize, most: usize) -> Vec<u8>
         rest -= part;
     }
     list
-}
-
-/// A filter to which just the wished ones of 1 to 4 apply, each caused by one
-/// axis. All widths that are not part of a cause are 1.
-pub fn with_refusals(random: &mut Random, wished: [bool; 4], on_rows: [bool; 4]) -> Filter {
-    let mut lists = [vec![], vec![]];
-    let mut counts = [48, 48];
-    let causes: [&[u8]; 4] = [&[], &[0], &[255, 3], &[2; 45]];
-    for i in 0..4 {
-        if wished[i] {
-            lists[usize::from(on_rows[i])].extend_from_slice(causes[i]);
-        }
-    }
-    if wished[0] {
-        counts[usize::from(on_rows[0])] = random.one_of(&[49, 255]);
-    }
-    for list in &mut lists {
-        list.resize(48, 1);
-        *list = shuffled(random, list);
-    }
-    let mut filter = filter(&lists[1], &lists[0]);
-    filter.rows.count = counts[1];
-    filter.columns.count = counts[0];
-    filter
-}
-
-/// The lowest bits of a number.
-pub fn from_bits<const N: usize>(bits: usize) -> [bool; N] {
-    std::array::from_fn(|i| bits >> i & 1 == 1)
 }

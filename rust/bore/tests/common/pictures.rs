@@ -17,12 +17,40 @@ pub struct Picture {
     pub pixels: Vec<u8>,
 }
 
+impl Picture {
+    /// A picture of these sides with this many random pixels.
+    pub fn random(random: &mut Random, width: usize, height: usize, pixels: usize) -> Picture {
+        Picture {
+            width,
+            height,
+            pixels: random.pixels(pixels),
+        }
+    }
+}
+
+/// Sides of which one is refused. The product of some is 0, 1 or 15 modulo
+/// 2^64.
+pub const REFUSED: [(usize, usize); 12] = [
+    (0, 0),
+    (0, 3),
+    (5, 0),
+    (1025, 3),
+    (5, 1025),
+    (1025, 1025),
+    (usize::MAX, 3),
+    (5, usize::MAX),
+    (usize::MAX, usize::MAX),
+    (1 << 32, 1 << 32),
+    (5, (1 << 63) + 3),
+    (15, 1 << 60),
+];
+
 /// The products that the reference may form for one picture, if its sides can
 /// be chosen so.
 const MOST_PRODUCTS: usize = 100_000;
 
 /// The products that the reference forms for all sums of a picture.
-fn products(recipe: &Recipe, width: usize, height: usize) -> usize {
+pub fn products(recipe: &Recipe, width: usize, height: usize) -> usize {
     let row_reach = reference::reach(&recipe.rows);
     let column_reach = reference::reach(&recipe.columns);
     (width + row_reach) * (row_reach + 1) * height * (column_reach + 1)
@@ -136,9 +164,78 @@ pub fn any_picture(random: &mut Random, width: usize, height: usize) -> Picture 
         _ => random.between(0, 20),
     };
     let length = any_length(random, right);
-    Picture {
-        width,
-        height,
-        pixels: random.pixels(length),
+    Picture::random(random, width, height, length)
+}
+
+/// The random case of a seed with a picture.
+pub fn pictured(seed: u64) -> (Case, Random, Picture) {
+    let (case, mut random) = picture_case(seed);
+    let (width, height) = any_sides(&mut random, &case.recipe());
+    let picture = any_picture(&mut random, width, height);
+    (case, random, picture)
+}
+
+/// Makes one in three pictures black, white, black but for one pixel, or all of
+/// one grey.
+pub fn repaint(random: &mut Random, pixels: &mut [u8]) {
+    let any = random.word() as u8;
+    match random.between(0, 11) {
+        0 => pixels.fill(0),
+        1 => pixels.fill(255),
+        2 => {
+            pixels.fill(0);
+            if !pixels.is_empty() {
+                pixels[random.between(0, pixels.len() - 1)] = random.one_of(&[1, 255, any]);
+            }
+        }
+        3 => pixels.fill(any),
+        _ => (),
     }
+}
+
+/// Light recipes for larger pictures.
+pub const LIGHT: [(&[u8], &[u8]); 8] = [
+    (&[], &[]),
+    (&[2], &[]),
+    (&[], &[2, 1]),
+    (&[2], &[2]),
+    (&[3], &[2]),
+    (&[1, 2], &[3]),
+    (&[4], &[1]),
+    (&[1], &[2, 2]),
+];
+
+/// A picture with sides up to 1,024.
+pub fn larger_picture(random: &mut Random) -> Picture {
+    let most = random.one_of(&[200, 500, 1024]);
+    let any = random.between(1, most);
+    let other = random.between(1, most);
+    let width = random.one_of(&[1, any, any, 1023, 1024]);
+    let height = random.one_of(&[1, other, other, 1023, 1024]);
+    Picture::random(random, width, height, width * height)
+}
+
+/// A place on a side: on its ends, where the window just goes over them, or
+/// anywhere.
+fn any_place(random: &mut Random, side: usize, list: &[u8]) -> usize {
+    let last = side - 1;
+    let half = reference::reach(list).div_ceil(2);
+    let near = random
+        .one_of(&[0, 1, half.saturating_sub(1), half, half + 1])
+        .min(last);
+    let any = random.between(0, last);
+    random.one_of(&[near, last - near, any])
+}
+
+/// Some places of a picture: the four corners, and others of which most are at
+/// or near the rims.
+pub fn some_places(random: &mut Random, recipe: &Recipe, picture: &Picture) -> Vec<(usize, usize)> {
+    let (right, bottom) = (picture.width - 1, picture.height - 1);
+    let mut places = vec![(0, 0), (right, 0), (0, bottom), (right, bottom)];
+    for _ in 0..12 {
+        let column = any_place(random, picture.width, &recipe.rows);
+        let row = any_place(random, picture.height, &recipe.columns);
+        places.push((column, row));
+    }
+    places
 }

@@ -6,7 +6,7 @@ use bore::Filter;
 use reference::random::Random;
 
 /// What stands in every buffer before a call.
-const BEFORE: u64 = 0xA5A5_A5A5_A5A5_A5A5;
+pub const BEFORE: u64 = 0xA5A5_A5A5_A5A5_A5A5;
 
 /// The sums, or the number.
 pub type Sums = Result<Vec<u64>, u8>;

@@ -2,8 +2,8 @@
 
 use crate::{blur, columns, one_pass, rows, subtract, sums};
 use reference::{
-    check, coefficients, exact_sums, grown_sides, job_length, needed_cells, reading, round_row,
-    same, scale_card, weight, Choice, Reading, Recipe,
+    check, coefficients, difference_of_sums, exact_sums, grown_sides, job_length, needed_cells,
+    reading, round_row, same, scale_card, weight, Choice, Reading, Recipe,
 };
 
 #[test]
@@ -89,6 +89,8 @@ fn difference_of_a_half_goes_away_from_zero() {
     let (a, b) = (rows(&[]), rows(&[2, 2]));
     assert_eq!(subtract(&a, &b, 1, 1, &[255]), [128]);
     assert_eq!(subtract(&b, &a, 1, 1, &[255]), [-128]);
+    assert_eq!(difference_of_sums(255, 1, 510, 4), 128);
+    assert_eq!(difference_of_sums(510, 4, 255, 1), -128);
     let quotient = reading(&b, 1, 1, &[255], (0, 0), Choice::Quotient);
     assert_eq!(quotient, Ok(Reading::Quotient(127.5)));
 }

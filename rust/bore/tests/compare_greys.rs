@@ -1,0 +1,218 @@
+//! Rounding and the same-size blur beside the reference, on random filters, rows
+//! of sums and pictures, with slices of right and wrong lengths; and the blur of
+//! larger pictures. BORE_CASES and BORE_SEED set the random cases as they do for
+//! the calls on a filter.
+
+mod common;
+
+use common::pictures::{any_cells, any_length, larger_picture, picture_case, picture_filter};
+use common::pictures::{pictured, repaint, some_places, Picture, LIGHT};
+use common::{accepted, agree_greys, count, each_seed, filter, meets, recipe_of, Case};
+use reference::random::Random;
+use reference::{Choice, Reading, Recipe};
+
+/// The weight where the recipe is accepted, else 1.
+fn weight(recipe: &Recipe) -> u64 {
+    reference::scale_card(recipe).map_or(1, |card| card.weight)
+}
+
+/// A sum that is accepted: next to a half, at a whole grey, or any other.
+fn any_sum(random: &mut Random, weight: u64) -> u64 {
+    let most = 255 * weight;
+    let whole = random.between(0, 255) as u64 * weight;
+    let half = whole + weight / 2;
+    let any = random.word() % (most + 1);
+    let sum = random.one_of(&[
+        half.saturating_sub(1),
+        half,
+        half + 1,
+        whole,
+        any,
+        any,
+        0,
+        most,
+    ]);
+    sum.min(most)
+}
+
+/// A sum that is refused 11.
+fn bright_sum(random: &mut Random, weight: u64) -> u64 {
+    let most = 255 * weight;
+    let any = random.word() % (u64::MAX - most);
+    random.one_of(&[most + 1, most + 1 + any, 1 << 63, u64::MAX])
+}
+
+/// A row of sums; one in eight has one or two that are refused.
+fn any_sums(random: &mut Random, weight: u64) -> Vec<u64> {
+    let any = random.between(0, 60);
+    let long = random.between(0, 2000);
+    let length = random.one_of(&[0, 1, 2, any, any, any, any, long]);
+    let mut sums: Vec<u64> = (0..length).map(|_| any_sum(random, weight)).collect();
+    if random.between(0, 7) == 0 && length > 0 {
+        for _ in 0..random.between(1, 2) {
+            sums[random.between(0, length - 1)] = bright_sum(random, weight);
+        }
+    }
+    sums
+}
+
+fn rounding(seed: u64) -> u8 {
+    let (case, mut random) = picture_case(seed);
+    let sums = any_sums(&mut random, weight(&case.recipe()));
+    let length = any_length(&mut random, sums.len());
+    agree_greys::round(&case, &mut random, &sums, length)
+}
+
+#[test]
+fn rounding_agrees() {
+    each_seed(2, |seed| {
+        rounding(seed);
+    });
+}
+
+/// The case of a seed with a picture, and lengths of output and cells of which
+/// most are right.
+fn with_lengths(seed: u64) -> (Case, Random, Picture, [usize; 2]) {
+    let (case, mut random, mut picture) = pictured(seed);
+    repaint(&mut random, &mut picture.pixels);
+    let needed = reference::same_size_cells(&case.recipe(), picture.width, picture.height);
+    let right = match needed {
+        Ok(needed) => [picture.width * picture.height, needed],
+        Err(_) => [(); 2].map(|_| random.between(0, 20)),
+    };
+    let out = any_length(&mut random, right[0]);
+    let cells = any_cells(&mut random, right[1]);
+    (case, random, picture, [out, cells])
+}
+
+fn blur(seed: u64) -> u8 {
+    let (case, mut random, picture, lengths) = with_lengths(seed);
+    agree_greys::blur(&case, &mut random, &picture, lengths)
+}
+
+#[test]
+fn blurs_agree() {
+    each_seed(2, |seed| {
+        blur(seed);
+    });
+}
+
+/// Pictures with sides up to 1,024, every place of them.
+#[test]
+fn larger_pictures_agree() {
+    each_seed(2000, |seed| {
+        let mut random = Random::new(seed);
+        let (rows, columns) = random.one_of(&LIGHT);
+        let case = Case::new(&mut random, seed, filter(rows, columns));
+        let mut picture = larger_picture(&mut random);
+        repaint(&mut random, &mut picture.pixels);
+        let (width, height) = (picture.width, picture.height);
+        let needed = reference::same_size_cells(&case.recipe(), width, height);
+        let lengths = [width * height, needed.unwrap_or(0)];
+        let number = agree_greys::blur(&case, &mut random, &picture, lengths);
+        assert_eq!(number, 0, "{width} by {height}, {case:?}");
+    });
+}
+
+/// Pictures with sides up to 1,024 and any accepted recipe, at some places.
+#[test]
+fn places_of_larger_pictures_agree() {
+    each_seed(1000, |seed| {
+        let mut random = Random::new(seed);
+        let filter = picture_filter(&mut random);
+        let recipe = recipe_of(&filter);
+        if reference::check(&recipe).is_err() {
+            return;
+        }
+        let mut picture = larger_picture(&mut random);
+        repaint(&mut random, &mut picture.pixels);
+        let (w, h) = (picture.width, picture.height);
+        let grays = accepted::blur(&filter, w, h, &picture.pixels);
+        for place in some_places(&mut random, &recipe, &picture) {
+            let pixels = &picture.pixels;
+            let expected = reference::reading(&recipe, w, h, pixels, place, Choice::Grey);
+            let found = Ok(Reading::Grey(grays[place.1 * w + place.0]));
+            let note = format_args!("seed {seed}, {place:?} of {w} by {h}, {recipe:?}");
+            assert_eq!(found, expected, "{note}");
+        }
+    });
+}
+
+/// Kinds of weights: 1, another with a single bit set, 2^44, odd, other.
+fn kinds_of_weight(recipe: &Recipe) -> [bool; 5] {
+    let weight = weight(recipe);
+    let power = weight.is_power_of_two();
+    let odd = weight % 2 == 1;
+    [
+        weight == 1,
+        power && weight > 1,
+        weight == 1 << 44,
+        odd && weight > 1,
+        !power && !odd,
+    ]
+}
+
+/// How often the first cases meet each number, and each kind of weight while
+/// they are accepted.
+#[test]
+fn random_rows_meet_every_number_and_kind() {
+    let mut numbers = [0; 12];
+    let mut weights = [0; 5];
+    for seed in 0..3000 {
+        let number = rounding(seed);
+        numbers[usize::from(number)] += 1;
+        if number == 0 {
+            let (case, _) = picture_case(seed);
+            count(&mut weights, kinds_of_weight(&case.recipe()));
+        }
+    }
+    assert!(meets(&numbers, &[0, 1, 2, 3, 4, 7, 11]), "{numbers:?}");
+    assert!(weights.iter().all(|&n| n >= 10), "{weights:?}");
+}
+
+/// Kinds of pictures: black, white, black but for one pixel.
+fn kinds_of_picture(pixels: &[u8]) -> [bool; 3] {
+    let all = |value: u8| pixels.iter().all(|&pixel| pixel == value);
+    let lit = pixels.iter().filter(|&&pixel| pixel > 0).count();
+    let large = pixels.len() > 1;
+    [large && all(0), large && all(255), large && lit == 1]
+}
+
+/// How often the first cases meet each number, and how often an accepted one is
+/// of each kind.
+#[test]
+fn random_pictures_meet_every_number_and_kind() {
+    let mut numbers = [0; 9];
+    let mut weights = [0; 5];
+    let mut pictures = [0; 3];
+    let mut others = [0; 7];
+    for seed in 0..3000 {
+        let number = blur(seed);
+        numbers[usize::from(number)] += 1;
+        if number > 0 {
+            continue;
+        }
+        let (case, _, picture, [_, cells]) = with_lengths(seed);
+        let recipe = case.recipe();
+        count(&mut weights, kinds_of_weight(&recipe));
+        count(&mut pictures, kinds_of_picture(&picture.pixels));
+        let [rx, ry] = [&recipe.rows, &recipe.columns].map(|list| reference::reach(list));
+        let needed = reference::same_size_cells(&recipe, picture.width, picture.height);
+        let more = cells - needed.unwrap_or(0);
+        let odd = |reach: usize| reach % 2 == 1;
+        let met = [
+            odd(rx),
+            odd(ry),
+            rx > 0 && ry > 0 && !odd(rx) && !odd(ry),
+            rx == 255,
+            ry == 255,
+            more == 0,
+            more > 0,
+        ];
+        count(&mut others, met);
+    }
+    assert!(meets(&numbers, &[0, 1, 2, 3, 4, 5, 6, 7, 8]), "{numbers:?}");
+    for counts in [&weights[..], &pictures, &others] {
+        assert!(counts.iter().all(|&n| n >= 10), "{counts:?}");
+    }
+}

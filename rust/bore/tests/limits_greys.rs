@@ -1,0 +1,287 @@
+//! Rounding and the same-size blur at each limit of document 01: every number
+//! and every grey stands here as the paper gives it, and nearly every call is
+//! compared with the reference too.
+
+mod common;
+
+use bore::Filter;
+use common::accepted;
+use common::agree_greys::{blur, round};
+use common::causes::{first, from_bits, with_refusals};
+use common::pictures::{Picture, REFUSED};
+use common::{filter, Case, BELOW};
+use reference::random::Random;
+
+/// Rows 2,3 and columns 2,2. On a picture 5 by 3 the grown picture has 40 sums,
+/// so the blur needs 80 cells. The weight is 24.
+fn both() -> Filter {
+    filter(&[2, 3], &[2, 2])
+}
+
+/// Recipes and their weights: with a single bit set, odd, other even ones, and
+/// at the limit.
+const WEIGHTS: [(&[u8], &[u8], u64); 15] = [
+    (&[], &[], 1),
+    (&[1; 48], &[1; 48], 1),
+    (&[2], &[], 2),
+    (&[3], &[], 3),
+    (&[2], &[2], 4),
+    (&[], &[5], 5),
+    (&[2, 3], &[2, 2], 24),
+    (&[7], &[9], 63),
+    (&[255], &[], 255),
+    (&[16], &[16], 256),
+    (&[255], &[255], 65_025),
+    (&[3; 14], &[3; 13], 7_625_597_484_987),
+    (&[2; 43], &[], 1 << 43),
+    (&BELOW, &[], (1 << 44) - 306_016),
+    (&[2; 22], &[2; 22], 1 << 44),
+];
+
+#[test]
+fn rounding_refuses_in_order() {
+    let mut random = Random::new(1);
+    let case = Case::fixed(&mut random, both());
+    let most = 255 * 24;
+    for (sums, out, number) in [
+        (&[][..], 0, 0),
+        (&[], 1, 7),
+        (&[0], 0, 7),
+        (&[0], 1, 0),
+        (&[0], 2, 7),
+        (&[0, most, 12], 3, 0),
+        (&[0, most, 12], 2, 7),
+        (&[0, most, 12], 4, 7),
+        (&[most + 1], 1, 11),
+        (&[most + 1], 0, 7),
+        (&[most + 1], 2, 7),
+        (&[most + 1, 0, 0], 3, 11),
+        (&[0, most + 1, 0], 3, 11),
+        (&[0, 0, most + 1], 3, 11),
+        (&[0, 0, u64::MAX], 3, 11),
+        (&[u64::MAX; 3], 3, 11),
+        (&[u64::MAX; 3], 4, 7),
+    ] {
+        let found = round(&case, &mut random, sums, out);
+        assert_eq!(found, number, "{sums:?} to length {out}");
+    }
+}
+
+/// Every choice of causes, those of the recipe on either axis.
+#[test]
+fn the_lowest_refusal_of_rounding_wins() {
+    let mut random = Random::new(2);
+    for bits in 0..64 {
+        let wished: [bool; 6] = from_bits(bits);
+        let [_, _, _, _, output, bright] = wished;
+        let causes = std::array::from_fn(|i| wished[i]);
+        for on_rows in 0..16 {
+            let filter = with_refusals(&mut random, causes, from_bits(on_rows));
+            let case = Case::fixed(&mut random, filter);
+            // All widths of an accepted filter are 1 here.
+            let sums = [7, if bright { 256 } else { 255 }];
+            let out = if output { random.one_of(&[0, 1, 3]) } else { 2 };
+            let found = round(&case, &mut random, &sums, out);
+            assert_eq!(found, first(wished, [1, 2, 3, 4, 7, 11]), "{case:?}");
+        }
+    }
+}
+
+/// The sums about every half: weight / 2 is half a weight where the weight is
+/// even, and then rounds upwards; where it is odd, it is below the half.
+#[test]
+fn rounding_turns_at_the_half() {
+    let mut random = Random::new(3);
+    for (rows, columns, weight) in WEIGHTS {
+        if weight == 1 {
+            continue;
+        }
+        let filter = filter(rows, columns);
+        let case = Case::fixed(&mut random, filter);
+        for k in 0..=254 {
+            let half = u64::from(k) * weight + weight / 2;
+            let sums = [half - 1, half, half + 1];
+            let at_half = if weight % 2 == 0 { k + 1 } else { k };
+            let grays = accepted::round(&filter, &sums);
+            assert_eq!(grays, [k, at_half, k + 1], "{sums:?}, weight {weight}");
+            assert_eq!(round(&case, &mut random, &sums, 3), 0);
+        }
+    }
+}
+
+/// Every whole grey, the largest sum and what is above it.
+#[test]
+fn rounding_takes_sums_up_to_white() {
+    let mut random = Random::new(4);
+    for (rows, columns, weight) in WEIGHTS {
+        let filter = filter(rows, columns);
+        let case = Case::fixed(&mut random, filter);
+        assert_eq!(accepted::moments(&filter).gain, weight, "{filter:?}");
+        let whole: Vec<u64> = (0..=255).map(|k| k * weight).collect();
+        let every: Vec<u8> = (0..=255).collect();
+        assert_eq!(accepted::round(&filter, &whole), every, "weight {weight}");
+        let most = 255 * weight;
+        for bright in [most + 1, 256 * weight, 1 << 52, 1 << 63, u64::MAX] {
+            for place in [0, 100, 255] {
+                let mut sums = whole.clone();
+                sums[place] = bright;
+                assert_eq!(round(&case, &mut random, &sums, 256), 11, "{bright}");
+            }
+        }
+    }
+}
+
+/// Rows of any length, with outputs of the same length, one less and one more.
+#[test]
+fn rounding_takes_any_length() {
+    let mut random = Random::new(5);
+    for (rows, columns) in [(&[2, 2][..], &[4][..]), (&[3], &[5])] {
+        let case = Case::fixed(&mut random, filter(rows, columns));
+        for length in (1..=70).chain([255, 256, 1279, 1280, 4096, 65_537, 1 << 20]) {
+            let sums: Vec<u64> = (0..length).map(|_| random.word() % (255 * 15)).collect();
+            for out in [length - 1, length, length + 1] {
+                let found = round(&case, &mut random, &sums, out);
+                let number = if out == length { 0 } else { 7 };
+                assert_eq!(found, number, "{length} sums, length {out}");
+            }
+        }
+    }
+}
+
+#[test]
+fn blur_refuses_in_order() {
+    let mut random = Random::new(6);
+    let case = Case::fixed(&mut random, both());
+    for ([pixels, out, cells], number) in [
+        ([15, 15, 80], 0),
+        ([15, 15, 81], 0),
+        ([15, 15, 1000], 0),
+        ([15, 15, 79], 8),
+        ([15, 15, 40], 8),
+        ([15, 15, 20], 8),
+        ([15, 15, 0], 8),
+        ([15, 14, 80], 7),
+        ([15, 16, 80], 7),
+        ([15, 40, 80], 7),
+        ([15, 14, 79], 7),
+        ([15, 0, 0], 7),
+        ([14, 15, 80], 6),
+        ([16, 15, 80], 6),
+        ([40, 15, 80], 6),
+        ([0, 0, 0], 6),
+    ] {
+        let picture = Picture::random(&mut random, 5, 3, pixels);
+        let found = blur(&case, &mut random, &picture, [out, cells]);
+        assert_eq!(found, number, "{pixels} pixels, lengths {out}, {cells}");
+    }
+    for (width, height) in REFUSED {
+        for lengths in [[15, 80], [0, 0]] {
+            for pixels in [0, 1, 15] {
+                let picture = Picture::random(&mut random, width, height, pixels);
+                let found = blur(&case, &mut random, &picture, lengths);
+                assert_eq!(found, 5, "{width} by {height}");
+            }
+        }
+    }
+}
+
+/// Every choice of causes, those of the recipe on either axis.
+#[test]
+fn the_lowest_refusal_of_the_blur_wins() {
+    let mut random = Random::new(7);
+    for bits in 0..256 {
+        let wished: [bool; 8] = from_bits(bits);
+        let [_, _, _, _, side, pixels, output, few] = wished;
+        let causes = std::array::from_fn(|i| wished[i]);
+        for on_rows in 0..16 {
+            let filter = with_refusals(&mut random, causes, from_bits(on_rows));
+            let case = Case::fixed(&mut random, filter);
+            // All widths of an accepted filter are 1 here, so nothing grows.
+            let width = if side { random.one_of(&[0, 1025]) } else { 4 };
+            let picture = Picture::random(&mut random, width, 1, if pixels { 3 } else { 4 });
+            let out = if output { random.one_of(&[3, 5]) } else { 4 };
+            let cells = if few { random.between(0, 7) } else { 8 };
+            let found = blur(&case, &mut random, &picture, [out, cells]);
+            let number = first(wished, [1, 2, 3, 4, 5, 6, 7, 8]);
+            assert_eq!(found, number, "{case:?}");
+        }
+    }
+}
+
+/// Recipes that need many cells for each place of the grown picture, on the
+/// smallest pictures, with just enough cells and with one too few.
+#[test]
+fn just_enough_cells() {
+    let mut random = Random::new(8);
+    for (rows, columns) in [
+        (&[3; 27][..], &[][..]),
+        (&[], &[3; 27]),
+        (&[3; 14], &[3; 13]),
+        (&[2; 44], &[]),
+        (&[], &[2; 44]),
+        (&[2; 22], &[2; 22]),
+        (&[4; 22], &[]),
+        (&[255, 2], &[]),
+        (&[], &[255, 2]),
+        (&[255], &[]),
+        (&[3, 3], &[255]),
+        (&[], &[]),
+    ] {
+        let case = Case::fixed(&mut random, filter(rows, columns));
+        for (width, height) in [(1, 1), (1, 2), (2, 1), (3, 5)] {
+            let size = width * height;
+            let grown_width = width + reference::reach(rows);
+            let needed = 2 * grown_width * (height + reference::reach(columns));
+            let picture = Picture::random(&mut random, width, height, size);
+            for (cells, number) in [(needed, 0), (needed + 1, 0), (needed - 1, 8)] {
+                let found = blur(&case, &mut random, &picture, [size, cells]);
+                assert_eq!(
+                    found, number,
+                    "{cells} cells, {width} by {height}, {case:?}"
+                );
+            }
+        }
+    }
+}
+
+/// One pixel of 200 in a line of black ones: rx / 2 and ry / 2 are halved
+/// downwards.
+#[test]
+fn where_one_pixel_goes() {
+    for (list, grays) in [
+        (&[][..], [0, 0, 200, 0, 0]),
+        (&[2], [0, 0, 100, 100, 0]),
+        (&[3], [0, 67, 67, 67, 0]),
+        (&[2, 2], [0, 50, 100, 50, 0]),
+        (&[4], [0, 50, 50, 50, 50]),
+        (&[3, 2], [0, 33, 67, 67, 33]),
+        (&[5], [40, 40, 40, 40, 40]),
+        (&[6], [33, 33, 33, 33, 33]),
+        (&[2; 5], [6, 31, 63, 63, 31]),
+    ] {
+        let line = [0, 0, 200, 0, 0];
+        assert_eq!(accepted::blur(&filter(list, &[]), 5, 1, &line), grays);
+        assert_eq!(accepted::blur(&filter(&[], list), 1, 5, &line), grays);
+    }
+}
+
+/// A white picture stays white where all coefficients cover it, whatever the
+/// weight; a black one stays black.
+#[test]
+fn white_and_black_pictures() {
+    for (rows, columns, _) in WEIGHTS {
+        let filter = filter(rows, columns);
+        let [rx, ry] = [rows, columns].map(reference::reach);
+        let (width, height) = (rx + 3, ry + 3);
+        let size = width * height;
+        let grays = accepted::blur(&filter, width, height, &vec![255; size]);
+        for row in ry.div_ceil(2)..ry.div_ceil(2) + 3 {
+            for column in rx.div_ceil(2)..rx.div_ceil(2) + 3 {
+                let gray = grays[row * width + column];
+                assert_eq!(gray, 255, "column {column}, row {row}, {filter:?}");
+            }
+        }
+        let black = accepted::blur(&filter, width, height, &vec![0; size]);
+        assert_eq!(black, vec![0; size], "{filter:?}");
+    }
+}
