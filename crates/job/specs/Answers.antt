@@ -1,0 +1,40 @@
+-- What reading a job returns, and what each case of a job's length stands for.
+use mathlib.Core.List.{List, _++_}
+use Prim.Native.Nat.{ℕ, _-_}
+use lib.ListN.{length, replicate}
+use Rattle.spec.specs.declared.Cascade.{Cascade}
+use Rattle.spec.specs.declared.Filter.{Filter}
+use Rattle.spec.specs.Recipe.{Recipe}
+use Rattle.spec.specs.Job.{jobRecipe, jobWidth, jobHeight, jobOffset}
+use Rattle.spec.specs.Refusals.{Answer, accepted, refused, first, lent, jobChecks}
+use Rattle.job.specs.declared.reading.Job.{Job}
+use Rattle.job.specs.declared.writing.FileSize.{FileSize}
+use Rattle.job.specs.declared.writing.FileSize.the-variants as size
+
+-- a list as a cascade holds it: its count, its widths, and zeros past them
+unfoldable pub held : List ℕ → Cascade
+held ns = record { count = length ns; widths = ns ++ replicate (48 - length ns) 0 }
+
+unfoldable pub heldFilter : Recipe → Filter
+heldFilter r = record { rows = held (r .rows); columns = held (r .columns) }
+
+-- a refused job: its number, and all else zero
+abbrev pub noWidths : Cascade
+noWidths = record { count = 0; widths = replicate 48 0 }
+
+abbrev pub noJob : ℕ → Job
+noJob n = record { refusal = n; filter = record { rows = noWidths; columns = noWidths }; width = 0; height = 0; offset = 0 }
+
+-- what a file says
+unfoldable pub jobTold : List ℕ → Job
+jobTold bytes =
+    record { refusal = 0; filter = heldFilter (jobRecipe bytes); width = jobWidth bytes; height = jobHeight bytes; offset = jobOffset bytes }
+
+-- Reading returns the recipe, w, h and the offset at which the pixels begin; on a refusal the number of the first check that holds.
+unfoldable pub jobRead : List ℕ → Job
+jobRead bytes = lent (jobChecks bytes) (jobTold bytes) (noJob (first (jobChecks bytes)))
+
+-- the length of a job
+abbrev pub sizeTold : FileSize → Answer ℕ
+sizeTold (size.Bytes n) = accepted n
+sizeTold (size.Refused n) = refused n

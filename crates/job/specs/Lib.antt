@@ -1,0 +1,4 @@
+pub mod Answers
+pub mod Written
+pub mod RoundTrip
+pub mod Private
