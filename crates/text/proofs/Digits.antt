@@ -1,0 +1,100 @@
+-- The decimal digits of a number: how many there are, and each of them.
+-- Assumes nothing.
+use mathlib.Core.Path.{_≡_, refl, sym, ap, ap₂, _∙_}
+use mathlib.Core.List.{List, [], _∷_, _++_}
+use Prim.Native.Nat.{ℕ, zero, suc, _+_, _/_, _%_, _^_, _≤_, _<_}
+use native.Mathlib.Nat.{not-suc-le-zero, le-of-suc-le-suc, zero-lt-suc, le-refl, one-le-pow, pow-suc, pow-le-pow-right}
+use native.Mathlib.Omega.{arith}
+use native.Mathlib.Decide.{decLt}
+use lib.ListN.{length, drop, set, length-append, length-set}
+use lib.Seq.{append-snoc, drop-cons, getD-set-same, drop-set-lt}
+use borrow.Author.Tests.{lt-ltb, le-ltb}
+use Rattle.spec.specs.Program.{decimalDigits, decimal}
+
+-- the last digits of a number, as many as asked for, with zeros in front where it has fewer
+unfoldable pub places : ℕ → ℕ → List ℕ
+places zero n = []
+places (suc k) n = places k (n / 10) ++ ((48 + n % 10) ∷ [])
+
+-- the digits of a number below 10, and of any other
+module _ (most n : ℕ) where
+  pub digits-one : n < 10 → decimalDigits (suc most) n ≡ (48 + n) ∷ []
+  unfolding decimalDigits
+  digits-one h = rw (lt-ltb n 10 h)
+
+  pub digits-more : 10 ≤ n → decimalDigits (suc most) n ≡ decimalDigits most (n / 10) ++ ((48 + n % 10) ∷ [])
+  unfolding decimalDigits
+  digits-more h = rw (le-ltb n 10 h)
+
+-- a number has k + 1 digits where 10 ^ k is the largest power of 10 that it reaches
+pub length-digits : (most k n : ℕ) → k < most → (0 < k → 10 ^ k ≤ n) → n < 10 ^ suc k → length (decimalDigits most n) ≡ suc k
+length-digits zero k n h low high = absurd (not-suc-le-zero h)
+length-digits (suc most) zero n h low high = ap length (digits-one most n high)
+length-digits (suc most) (suc k) n h low high =
+    let reached : 10 ^ suc k ≤ n = low (zero-lt-suc k) in
+    let one = one-le-pow k 10 (omega arith) in
+    ap length (digits-more most n (omega (arith, pow-suc 10 k)))
+    ∙ length-append (decimalDigits most (n / 10)) ((48 + n % 10) ∷ [])
+    ∙ omega (
+      arith,
+      length-digits most k (n / 10) (le-of-suc-le-suc h) (λ g. omega (arith, pow-suc 10 k)) (omega (arith, pow-suc 10 (suc k))),
+    )
+
+-- there are no more digits than asked for
+pub digits-most : (most n : ℕ) → length (decimalDigits most n) ≤ most
+unfolding decimalDigits
+digits-most zero n = le-refl 0
+digits-most (suc most) n =
+    elim (decLt n 10) [
+      | yes h ↦ omega (arith, ap length (digits-one most n h))
+      | no h ↦
+          omega (
+            arith,
+            ap length (digits-more most n (omega arith)),
+            length-append (decimalDigits most (n / 10)) ((48 + n % 10) ∷ []),
+            digits-most most (n / 10),
+          )
+    ]
+
+pub length-decimal : (n : ℕ) → length (decimal n) ≤ 20
+unfolding decimal
+length-decimal n = digits-most 20 n
+
+-- the powers of 10 that a 64-bit number can reach
+pub below-twenty : (k n : ℕ) → 10 ^ k ≤ n → n < 2 ^ 64 → k < 20
+below-twenty k n h g =
+    elim (decLt k 20) [
+      | yes l ↦ l
+      | no l ↦
+          let past : 20 ≤ k = omega arith in
+          let p : 10 ^ 20 ≤ 10 ^ k = pow-le-pow-right (zero-lt-suc 9) past in
+          absurd (omega arith)
+    ]
+
+-- a number's digits are its last digits, as many as it has
+pub digits-places : (most n : ℕ) → decimalDigits most n ≡ places (length (decimalDigits most n)) n
+unfolding places decimalDigits
+digits-places zero n = refl
+digits-places (suc most) n =
+    elim (decLt n 10) [
+      | yes h ↦
+          let e : 48 + n ≡ 48 + n % 10 = omega arith in
+          digits-one most n h ∙ ap (λ d. d ∷ []) e ∙ ap (λ l. places (length l) n) (sym (digits-one most n h))
+      | no h ↦
+          let m = digits-more most n (omega arith) in
+          let size : length (decimalDigits (suc most) n) ≡ suc (length (decimalDigits most (n / 10))) =
+          ap length m ∙ length-append (decimalDigits most (n / 10)) ((48 + n % 10) ∷ []) ∙ omega arith in
+          m
+          ∙ ap (λ l. l ++ ((48 + n % 10) ∷ [])) (digits-places most (n / 10))
+          ∙ ap (λ k. places k n) (sym size)
+    ]
+
+-- one digit more, written from the right
+pub places-more : (k n : ℕ) (l : List ℕ) → k < length l → places (suc k) n ++ drop (suc k) l ≡ places k (n / 10) ++ drop k (set l k (48 + n % 10))
+unfolding places
+places-more k n l h =
+    append-snoc (places k (n / 10)) (48 + n % 10) (drop (suc k) l)
+    ∙ ap (λ t. places k (n / 10) ++ t)
+    (sym
+    (drop-cons (set l k (48 + n % 10)) k 0 (omega (arith, length-set l k (48 + n % 10)))
+    ∙ ap₂ _∷_ (getD-set-same l k (48 + n % 10) 0 h) (drop-set-lt (suc k) l k (48 + n % 10) (omega arith))))
