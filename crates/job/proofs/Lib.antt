@@ -1,3 +1,4 @@
 pub mod Holding
 pub mod Answering
 pub mod Appending
+pub mod Trips
