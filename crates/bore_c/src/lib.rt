@@ -32,7 +32,8 @@ use spec::Cascade;
 use spec::Filter;
 use stream::State;
 
-fn filter_of(row_count: u8, rows: &[u8; 48], column_count: u8, columns: &[u8; 48]) -> Filter
+// The recipe that a C caller gives. It is offered to the other crates of C calls.
+pub fn filter_of(row_count: u8, rows: &[u8; 48], column_count: u8, columns: &[u8; 48]) -> Filter
     ensures { λ r. ⌜ recipe r ≡ given «row_count» (now (rows .entry)) «column_count» (now (columns .entry)) ⌝ }
 {
     Filter {
