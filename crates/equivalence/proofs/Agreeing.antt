@@ -16,7 +16,7 @@ use Rattle.laws.proofs.Lists.{getD-tab}
 use Rattle.laws.proofs.Refusals.{first-rest, first-then, recipe-numbered, picture-passed, answer-accepted, is-accepted}
 use Rattle.laws.proofs.Counts.{same-balanced, balanced-same}
 use Rattle.laws.proofs.Sameness.{dot, counts-gain, counts-width, counts-height, counts-row, sums-counts}
-use Rattle.stream.specs.OnePass.{Bytes}
+use Rattle.rows.specs.OnePass.{Bytes}
 use Rattle.equivalence.specs.declared.Comparison.{Comparison}
 use Rattle.equivalence.specs.declared.Comparison.the-variants as comparison
 use Rattle.equivalence.specs.Compared.{comparisonTold}

@@ -19,9 +19,9 @@ use Rattle.laws.proofs.Refusals.{none-both, first-rest, first-then, size-number
 use Rattle.direct.specs.Formed.{checks as directAsked}
 use Rattle.passes.specs.Passed.{checks as passAsked}
 use Rattle.stream.specs.Calls.{Began, start, started}
-use Rattle.stream.specs.Runs.{whole}
-use Rattle.stream.specs.OnePass.{acceptedCalls}
-use Rattle.stream.proofs.Run.{one-pass, first-rows}
+use Rattle.rows.specs.Runs.{whole}
+use Rattle.rows.specs.OnePass.{acceptedCalls}
+use Rattle.rows.proofs.Run.{one-pass, first-rows}
 use Rattle.equivalence.specs.Yields.{AcceptedWith, stream, passes, direct, rowIn, StreamedRow, PassedRow, FormedRow, Yields, YieldsClaim}
 
 -- a list of zeros, lent for so many numbers

@@ -12,8 +12,8 @@ use Rattle.spec.specs.Refusals.{first, recipeChecks, pictureChecks}
 use Rattle.direct.specs.Formed.{Formed}
 use Rattle.passes.specs.Passed.{Passed}
 use Rattle.stream.specs.Calls.{start}
-use Rattle.stream.specs.Runs.{Call, outputs}
-use Rattle.stream.specs.OnePass.{Bytes, acceptedCalls, FirstRows}
+use Rattle.rows.specs.Runs.{Call, outputs}
+use Rattle.rows.specs.OnePass.{Bytes, acceptedCalls, FirstRows}
 
 -- a recipe to which none of 1 to 4 applies
 abbrev pub AcceptedRecipe : Recipe → Type 0

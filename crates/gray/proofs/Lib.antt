@@ -1,6 +1,5 @@
 pub mod Dividing
 pub mod Grays
-pub mod Driving
 pub mod Taking
 pub mod Answering
 pub mod Parts

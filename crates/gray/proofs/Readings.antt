@@ -16,7 +16,7 @@ use Rattle.direct.specs.declared.points.Point.{Point}
 use Rattle.direct.specs.declared.points.Point.the-variants as point
 use Rattle.direct.specs.Answers.{pointTold}
 use Rattle.direct.proofs.Reading.{is-inside}
-use Rattle.stream.specs.OnePass.{Bytes}
+use Rattle.rows.specs.OnePass.{Bytes}
 
 module _ (r : Recipe) (p : Picture) (i j : ℕ) (x : Point) (told : pointTold x ≡ answer (readingChecks r p i j) (sameSum r p i j)) where
   -- the sum is refused

@@ -1,6 +1,7 @@
--- The part of a grown row that the same-size blur takes, and that twice the grown size is enough cells for the one pass.
+-- The part of a grown row that the same-size blur takes, the first row that it takes, and that twice the grown size is enough cells for
+-- the one pass.
 -- Assumes nothing.
-use mathlib.Core.Path.{_≡_, refl, ap, ap₂, _∙_}
+use mathlib.Core.Path.{_≡_, refl, sym, ap, ap₂, subst, _∙_}
 use mathlib.Core.Bool.{Bool, true, false, cond}
 use mathlib.Core.List.{List, [], _∷_}
 use Prim.Native.Nat.{ℕ, _+_, _-_, _*_, _/_, _≤_, _<_}
@@ -12,18 +13,22 @@ use lib.ListN.{length, getD, take, drop, length-drop, List·getD-eq-default}
 use lib.Seq.{length-take-le, getD-take, getD-drop}
 use borrow.Author.Tests.{le-ltb, ltb-false, eqb-true, eqb-false}
 use Rattle.spec.specs.Words.{tab, total}
-use Rattle.spec.specs.Recipe.{Recipe, order, gain}
-use Rattle.spec.specs.Picture.{Picture, exact, fullWidth, fullHeight, fullRow}
+use Rattle.spec.specs.declared.Filter.{Filter}
+use Rattle.spec.specs.Recipe.{Recipe, recipe, order, gain}
+use Rattle.spec.specs.Picture.{Picture, picture, exact, fullWidth, fullHeight, fullRow}
 use Rattle.spec.specs.Stream.{boxCells, cascadeCells, streamCells}
 use Rattle.spec.specs.Gray.{gray, sameColumn, sameRow, sameSum, sameGray}
 use Rattle.spec.specs.Refusals.{first, tooFewCells, sizeChecks, pictureChecks, startChecks, fullSize}
 use Rattle.laws.proofs.Lists.{length-tab, getD-tab, tab-agree}
 use Rattle.laws.proofs.Exact.{exact-small}
-use Rattle.laws.proofs.Refusals.{Sized, grown-most, none-both, first-then, size-numbered, is-sized}
+use Rattle.laws.proofs.Refusals.{Sized, AcceptedPicture, grown-most, none-both, first-then, size-numbered, is-sized}
 use Rattle.filter.specs.declared.checks.Measures.{Measures}
 use Rattle.filter.proofs.Refusal.{Known}
-use Rattle.stream.specs.OnePass.{Bytes}
+use Rattle.stream.specs.declared.calls.State.{State}
+use Rattle.rows.specs.OnePass.{Bytes}
+use Rattle.rows.specs.Streaming.{Streamed}
 use Rattle.gray.specs.Division.{Bounded}
+use Rattle.gray.specs.Taking.{Taken}
 
 -- ---- the places that are taken
 
@@ -134,3 +139,20 @@ start-accepted r p cells z h =
     let tall = is-sized r (p .width) (p .height) sized .1 .height .0 in
     first-then (sizeChecks r (p .width) (p .height)) _ 8 (size-numbered r (p .width) (p .height)) sized
     ∙ ap (λ b. cond b 8 0) (le-ltb cells (streamCells r (p .width)) (omega (arith, stream-enough r p tall)))
+
+-- ---- the state at the first row that is taken
+
+-- the next grown row is the first that the same-size blur takes
+pub is-taken : (f : Filter) (w h : ℕ) (pixels : List ℕ) (k : ℕ) (s : State) (cells : List ℕ) (st : Streamed f (picture w h pixels) k s cells) (left : ℕ) (row : List ℕ)
+    → AcceptedPicture (recipe f) (picture w h pixels) → k ≡ order (recipe f .columns) / 2 → left ≡ order (recipe f .rows) / 2
+    → length row ≡ fullWidth (recipe f) w → Taken s left pixels row cells
+is-taken f w h pixels k s cells st left row ok above half wide =
+    subst (λ (t : State). Taken t left pixels row cells) (sym (st .is))
+    (record {
+      picture = ok;
+      streamed =
+          subst (λ n. Streamed f (picture w h pixels) n (record { filter = f; width = w; height = h; emitted = k }) cells) above
+          (subst (λ (t : State). Streamed f (picture w h pixels) k t cells) (st .is) st);
+      half = half;
+      wide = wide;
+    })

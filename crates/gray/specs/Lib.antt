@@ -1,6 +1,6 @@
 pub mod Rounded
 pub mod Written
 pub mod Division
-pub mod Streaming
+pub mod Taking
 pub mod Sampled
 pub mod Pairs

@@ -13,7 +13,7 @@ use Rattle.gray.specs.declared.rounding.Divisor.{Divisor}
 use Rattle.gray.specs.declared.pair.Pair.{Pair}
 use Rattle.gray.specs.declared.pair.Operand.{Operand}
 use Rattle.gray.specs.Division.{Divides}
-use Rattle.gray.specs.Streaming.{Taken}
+use Rattle.gray.specs.Taking.{Taken}
 
 -- Both one passes of the same picture stand before the first row that is taken, each with its own part of the cells.
 pub record BothTaken (pair : Pair) (a b : Operand) (by : Divisor) (middle : ℕ) (pixels aRow bRow cells : List ℕ) : Type 0 where

@@ -1,9 +1,9 @@
 // Document 01's greys: rounding, the same-size blur, the difference of two recipes, and the reading at
 // one place.
+mod grown;
 mod pair;
 mod place;
 mod rounding;
-mod rows;
 mod same;
 
 pub use pair::difference;

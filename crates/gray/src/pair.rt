@@ -12,14 +12,14 @@ ghost use Rattle.spec.specs.Refusals.{check, first, oddApart, fullSize, sizeChe
 ghost use Rattle.filter.proofs.Refusal.{Known};
 ghost use Rattle.spec.specs.Gray.{nearestDifference, places, difference as differenceOf};
 ghost use Rattle.gray.specs.Division.{Divides, Bounded};
-ghost use Rattle.gray.specs.Streaming.{pictureOf, Due, Came};
+ghost use Rattle.rows.specs.Streaming.{pictureOf, Due, Came};
 ghost use Rattle.gray.specs.Pairs.{BothTaken, BothAccepted};
 ghost use Rattle.gray.specs.Written.{Differenced};
+use crate::grown::begin;
+use crate::grown::next;
 use crate::rounding::Divisor;
 use crate::rounding::divisor_of;
 use crate::rounding::rounded;
-use crate::rows::begin;
-use crate::rows::next;
 use filter::FullSize;
 use filter::Measures;
 use filter::full_size;

@@ -9,12 +9,13 @@ ghost use Rattle.spec.specs.Refusals.{first, sizeChecks, pictureChecks, fullSiz
 ghost use Rattle.filter.proofs.Refusal.{Known};
 ghost use Rattle.gray.specs.Written.{Blurred};
 ghost use Rattle.gray.specs.Division.{Divides};
-ghost use Rattle.gray.specs.Streaming.{pictureOf, Taken};
+ghost use Rattle.rows.specs.Streaming.{pictureOf};
+ghost use Rattle.gray.specs.Taking.{Taken};
+use crate::grown::begin;
+use crate::grown::next;
 use crate::rounding::Divisor;
 use crate::rounding::divisor_of;
 use crate::rounding::round_row;
-use crate::rows::begin;
-use crate::rows::next;
 use filter::FullSize;
 use filter::Measures;
 use filter::full_size;

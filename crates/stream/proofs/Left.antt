@@ -188,20 +188,3 @@ module _ (r : Recipe) (e own : ℕ) (row cells row₁ cells₁ : List ℕ) (p : 
         x ∙ ap₂ (λ v cs. second v cs .row) row-is all,
         ap₂ _++_ taken (ap₂ _++_ (y ∙ ap₂ (λ v cs. second v cs .cells) row-is all) none ∙ append-nil _),
       )
-
--- Stages keep the lengths of the row and of their cells.
-module _ (w : ℕ) (size : ℕ → ℕ) (stage : ℕ → List ℕ → List ℕ → Worked)
-    (keeps : (n : ℕ) (row own : List ℕ) → length row ≡ w → length own ≡ size n
-    → (length (stage n row own .row) ≡ w) × (length (stage n row own .cells) ≡ size n)) where
-  pub stages-keep : (ns row cells : List ℕ) → length row ≡ w → total size ns ≤ length cells
-      → (length (stages size stage ns row cells .row) ≡ w) × (length (stages size stage ns row cells .cells) ≡ length cells)
-  unfolding stages total
-  stages-keep [] row cells e h = (e, refl)
-  stages-keep (n ∷ ns) row cells e h =
-      let own = take (size n) cells in
-      let one = keeps n row own e (length-take-le (size n) cells (omega arith)) in
-      let first = stage n row own in
-      let rest = stages-keep ns (first .row) (drop (size n) cells) (one .0) (omega (arith, length-drop (size n) cells)) in (
-        rest .0,
-        omega (arith, length-append (first .cells) (stages size stage ns (first .row) (drop (size n) cells) .cells), one .1, rest .1, length-drop (size n) cells),
-      )

@@ -5,6 +5,3 @@ pub mod Slots
 pub mod Left
 pub mod States
 pub mod Loading
-pub mod Honest
-pub mod Yield
-pub mod Run

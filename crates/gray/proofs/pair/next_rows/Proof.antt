@@ -4,7 +4,7 @@ use mathlib.Core.Path.{_≡_, sym, ap, subst, _∙_}
 use native.Mathlib.Omega.{arith}
 use borrow.Author.Needs.{needs}
 use lib.ListN.{length}
-use Rattle.gray.specs.Streaming.{Due, Came}
+use Rattle.rows.specs.Streaming.{Due, Came}
 use Rattle.gray.proofs.Parts.{front-is, front-length, back-is, two-front, two-back}
 use Rattle.gray.proofs.pair.next_rows.Statement.{statement}
 use Rattle.gray.proofs.pair.next_rows.Tie as tie

@@ -12,10 +12,10 @@ use Rattle.spec.specs.Picture.{picture, fullHeight}
 use Rattle.spec.specs.Gray.{places, difference}
 use Rattle.laws.proofs.Refusals.{AcceptedPicture, is-accepted-picture}
 use Rattle.stream.specs.declared.calls.State.{State}
-use Rattle.gray.specs.Streaming.{Taken, pictureOf}
-use Rattle.gray.proofs.Driving.{is-taken}
+use Rattle.rows.specs.Streaming.{pictureOf}
+use Rattle.gray.specs.Taking.{Taken}
 use Rattle.gray.proofs.Parts.{front-is, front-length, back-is, two-front, two-back, two-length}
-use Rattle.gray.proofs.Taking.{start-accepted, grown}
+use Rattle.gray.proofs.Taking.{is-taken, start-accepted, grown}
 use Rattle.gray.proofs.pair.run.Statement.{statement}
 use Rattle.gray.proofs.pair.run.Tie as tie
 

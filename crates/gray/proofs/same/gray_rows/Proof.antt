@@ -14,8 +14,8 @@ use Rattle.laws.proofs.Slices.{Mixed, mixed-none, mixed-all, length-mixed, leng
 use Rattle.laws.proofs.Refusals.{grown-most}
 use Rattle.laws.proofs.Rows.{length-rows, rows-more}
 use Rattle.gray.specs.Division.{Divides, Bounded}
-use Rattle.gray.specs.Streaming.{Streamed, pictureOf}
-use Rattle.gray.proofs.Driving.{is-due, has-come}
+use Rattle.rows.specs.Streaming.{Streamed, pictureOf}
+use Rattle.rows.proofs.Driving.{is-due, has-come}
 use Rattle.gray.proofs.Taking.{long, taken-length, taken-bounded, taken-grays}
 use Rattle.gray.proofs.same.gray_rows.Statement.{statement}
 use Rattle.gray.proofs.same.gray_rows.Tie as tie

@@ -10,9 +10,8 @@ use Rattle.spec.specs.Gray.{places, sameGray}
 use Rattle.laws.proofs.Refusals.{AcceptedPicture, is-accepted-picture}
 use Rattle.stream.specs.declared.calls.State.{State}
 use Rattle.gray.specs.Division.{Divides}
-use Rattle.gray.specs.Streaming.{pictureOf}
-use Rattle.gray.proofs.Driving.{is-taken}
-use Rattle.gray.proofs.Taking.{start-accepted}
+use Rattle.rows.specs.Streaming.{pictureOf}
+use Rattle.gray.proofs.Taking.{is-taken, start-accepted}
 use Rattle.gray.proofs.same.run.Statement.{statement}
 use Rattle.gray.proofs.same.run.Tie as tie
 

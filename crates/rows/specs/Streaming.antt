@@ -1,17 +1,17 @@
--- Words for the contracts of private functions; no exported contract uses them. The one pass, driven over a picture.
+-- The one pass driven over a picture, in words for those that drive it: where it stands, that a grown row is due, and that it has come.
 use mathlib.Core.Path.{_≡_}
 use mathlib.Core.List.{List}
-use Prim.Native.Nat.{ℕ, _+_, _*_, _/_, _<_, min}
+use Prim.Native.Nat.{ℕ, _+_, _*_, _<_, min}
 use lib.ListN.{length}
 use Rattle.spec.specs.declared.Filter.{Filter}
 use Rattle.spec.specs.Words.{tab}
-use Rattle.spec.specs.Recipe.{recipe, order}
+use Rattle.spec.specs.Recipe.{recipe}
 use Rattle.spec.specs.Picture.{Picture, picture, fullWidth, fullHeight, fullRow}
-use Rattle.laws.proofs.Refusals.{Sized, AcceptedPicture}
+use Rattle.laws.proofs.Refusals.{Sized}
 use Rattle.stream.specs.declared.calls.State.{State}
 use Rattle.stream.specs.Calls.{start}
-use Rattle.stream.specs.Runs.{Call, rows, pictureRow}
-use Rattle.stream.specs.OnePass.{acceptedCalls, left}
+use Rattle.rows.specs.Runs.{Call, rows, pictureRow}
+use Rattle.rows.specs.OnePass.{acceptedCalls, left}
 
 -- A state and cells that a list of calls has left, after an accepted start of a recipe and a picture's sides: k calls were accepted, with
 -- the rows of the picture in order.
@@ -41,10 +41,3 @@ pub record Due (s : State) (pixels row cells : List ℕ) : Type 0 where
 pub record Came (s t : State) (pixels row cells : List ℕ) : Type 0 where
   pub streamed : Streamed (s .filter) (pictureOf s pixels) (s .emitted + 1) t cells
   pub exact : row ≡ fullRow (recipe (s .filter)) (pictureOf s pixels) (s .emitted)
-
--- An accepted picture, of whose grown rows the next is the first that the same-size blur takes, from the left place on.
-pub record Taken (s : State) (left : ℕ) (pixels row cells : List ℕ) : Type 0 where
-  pub picture : AcceptedPicture (recipe (s .filter)) (pictureOf s pixels)
-  pub streamed : Streamed (s .filter) (pictureOf s pixels) (order (recipe (s .filter) .columns) / 2) s cells
-  pub half : left ≡ order (recipe (s .filter) .rows) / 2
-  pub wide : length row ≡ fullWidth (recipe (s .filter)) (s .width)

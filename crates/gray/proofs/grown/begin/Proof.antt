@@ -1,4 +1,4 @@
--- `gray::rows::begin` meets its contract: after the start each turn passes over one grown row.
+-- `gray::grown::begin` meets its contract: after the start each turn passes over one grown row.
 -- Assumes nothing.
 use mathlib.Core.Path.{_≡_, sym, ap, subst, _∙_}
 use Prim.Native.Nat.{_-_, _≤_}
@@ -8,10 +8,10 @@ use lib.ListN.{length}
 use Rattle.spec.specs.Recipe.{recipe}
 use Rattle.spec.specs.Picture.{picture, fullWidth, fullHeight}
 use Rattle.stream.specs.declared.calls.State.{State}
-use Rattle.gray.specs.Streaming.{Streamed}
-use Rattle.gray.proofs.Driving.{begun, is-due, has-come}
-use Rattle.gray.proofs.rows.begin.Statement.{statement}
-use Rattle.gray.proofs.rows.begin.Tie as tie
+use Rattle.rows.specs.Streaming.{Streamed}
+use Rattle.rows.proofs.Driving.{begun, is-due, has-come}
+use Rattle.gray.proofs.grown.begin.Statement.{statement}
+use Rattle.gray.proofs.grown.begin.Tie as tie
 
 abbrev Inv-loop : tie.InvT-loop
 Inv-loop width height skipped pixels row₀ cells₀ state₀ k₀ row cells state k =

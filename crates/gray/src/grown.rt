@@ -5,26 +5,18 @@ ghost use lib.ListN.{length};
 ghost use Rattle.spec.specs.Recipe.{recipe};
 ghost use Rattle.spec.specs.Picture.{picture, fullWidth, fullHeight};
 ghost use Rattle.spec.specs.Refusals.{first, startChecks};
-ghost use Rattle.gray.specs.Streaming.{Streamed, Due, Came};
+ghost use Rattle.rows.specs.Streaming.{Streamed, Due, Came};
+use rows::State;
+use rows::advance;
 use spec::Filter;
-use stream::State;
-use stream::drain;
-use stream::push;
 use stream::start;
 
-// The next grown row: by a row call while rows of the picture are due, then by a drain.
+// The next grown row, where one is due.
 pub(crate) fn next(state: State, pixels: &[u8], row: &mut [u64], cells: &mut [u64]) -> State
     requires { ⌜ Due state (now pixels) (now row) (now cells) ⌝ }
     ensures { λ r. ⌜ Came state r (now (pixels .entry)) (now (row .exit)) (now (cells .exit)) ⌝ }
 {
-    let at = state.emitted;
-    if at < state.height {
-        let from = at * state.width;
-        let to = from + state.width;
-        push(state, &pixels[from..to], row, cells).state
-    } else {
-        drain(state, row, cells).state
-    }
+    advance(state, pixels, row, cells).state
 }
 
 // Starts, and passes over the first grown rows, as many as `skipped` says.

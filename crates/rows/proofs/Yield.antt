@@ -1,7 +1,7 @@
 -- One row through all stages, from honest cells: the grown row of exact sums.
 -- Assumes nothing.
-use mathlib.Core.Path.{_≡_, sym, ap, subst, _∙_}
-use mathlib.Core.List.{List, [], _++_}
+use mathlib.Core.Path.{_≡_, refl, sym, ap, subst, _∙_}
+use mathlib.Core.List.{List, [], _∷_, _++_}
 use Prim.Native.Nat.{ℕ, _+_, _*_, _%_, _^_, _≤_, _<_}
 use native.Mathlib.Nat.{le-trans, le-of-eq, mul-le-mul-left}
 use native.Mathlib.Decide.{decLt}
@@ -16,10 +16,26 @@ use Rattle.laws.proofs.Lists.{length-tab, getD-tab, getD-tab-past, tab-agree, t
 use Rattle.laws.proofs.Kernels.{at, holds-tab}
 use Rattle.laws.proofs.Cascades.{cascaded}
 use Rattle.laws.proofs.Exact.{pixel-right, pixel-below, pixel-inside, line, exact-cascaded, exact-small, pixel-small, rows-pos, columns-pos}
 use Rattle.stream.specs.Stages.{Worked, rowStage, columnStage, stages, along, down, worked, entering}
-use Rattle.stream.specs.Runs.{pictureRow}
-use Rattle.stream.proofs.Left.{stages-keep}
-use Rattle.stream.proofs.Honest.{Follows, KeptAll, row-keeps, column-keeps, rows-follow, columns-follow, zeros-kept}
+use Rattle.rows.specs.Runs.{pictureRow}
+use Rattle.rows.proofs.Honest.{Follows, KeptAll, row-keeps, column-keeps, rows-follow, columns-follow, zeros-kept}
+
+-- Stages keep the lengths of the row and of their cells.
+module _ (w : ℕ) (size : ℕ → ℕ) (stage : ℕ → List ℕ → List ℕ → Worked)
+    (keeps : (n : ℕ) (row own : List ℕ) → length row ≡ w → length own ≡ size n
+    → (length (stage n row own .row) ≡ w) × (length (stage n row own .cells) ≡ size n)) where
+  pub stages-keep : (ns row cells : List ℕ) → length row ≡ w → total size ns ≤ length cells
+      → (length (stages size stage ns row cells .row) ≡ w) × (length (stages size stage ns row cells .cells) ≡ length cells)
+  unfolding stages total
+  stages-keep [] row cells e h = (e, refl)
+  stages-keep (n ∷ ns) row cells e h =
+      let own = take (size n) cells in
+      let one = keeps n row own e (length-take-le (size n) cells (omega arith)) in
+      let first = stage n row own in
+      let rest = stages-keep ns (first .row) (drop (size n) cells) (one .0) (omega (arith, length-drop (size n) cells)) in (
+        rest .0,
+        omega (arith, length-append (first .cells) (stages size stage ns (first .row) (drop (size n) cells) .cells), one .1, rest .1, length-drop (size n) cells),
+      )
 
 module _ (r : Recipe) (p : Picture) where
   -- the grown width

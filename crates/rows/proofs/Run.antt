@@ -19,13 +19,13 @@ use Rattle.spec.specs.Refusals.{Check, check, first, either, badState, rowNotDu
 use Rattle.laws.proofs.Lists.{length-tab, tab-agree, length-part}
 use Rattle.laws.proofs.Refusals.{Accepted, lent-refused, lent-accepted, none-both, first-none, size-numbered, is-sized}
 use Rattle.laws.proofs.Exact.{line}
 use Rattle.stream.specs.declared.calls.State.{State}
 use Rattle.stream.specs.Stages.{entering}
 use Rattle.stream.specs.Calls.{Called, stateOf, next, steps, answers, push, drain, Began, start, started}
-use Rattle.stream.specs.Runs.{Call, aRow, aDrain, answerOf, Yielded, run, Carried, carried, rowOf, rows, outputs, isRow, kinds, pictureRow, whole}
-use Rattle.stream.specs.OnePass.{Bytes, acceptedCalls, left, FirstRows, OnePass, Claim as TheClaim}
+use Rattle.rows.specs.Runs.{Call, aRow, aDrain, answerOf, Yielded, run, Carried, carried, rowOf, rows, outputs, isRow, kinds, pictureRow, whole}
+use Rattle.rows.specs.OnePass.{Bytes, acceptedCalls, left, FirstRows, OnePass, Claim as TheClaim}
 use Rattle.stream.proofs.States.{bad-late, row-ready, drain-ready}
-use Rattle.stream.proofs.Yield.{Honest, row-yielded, cells-length, cells-honest, entering-row, entering-black, start-honest}
+use Rattle.rows.proofs.Yield.{Honest, row-yielded, cells-length, cells-honest, entering-row, entering-black, start-honest}
 
 -- ---- one call
 

@@ -3,26 +3,26 @@
 use mathlib.Core.Path.{_≡_, refl, sym, ap, ap₂, subst, _∙_}
 use mathlib.Core.Bool.{false}
 use mathlib.Core.List.{List, [], _∷_, _++_, append-nil}
-use Prim.Native.Nat.{ℕ, suc, _+_, _*_, _/_, _≤_, _<_, min}
+use Prim.Native.Nat.{ℕ, suc, _+_, _*_, _≤_, _<_, min}
 use native.Mathlib.Omega.{arith}
 use lib.ListN.{length, getD, length-append}
 use lib.Seq.{getD-append-add}
 use borrow.Author.Tests.{le-ltb, lt-leb}
 use Rattle.spec.specs.declared.Filter.{Filter}
 use Rattle.spec.specs.Words.{tab}
-use Rattle.spec.specs.Recipe.{recipe, order}
+use Rattle.spec.specs.Recipe.{recipe}
 use Rattle.spec.specs.Picture.{Picture, picture, fullWidth, fullHeight, fullRow}
 use Rattle.spec.specs.Refusals.{check, first, either, otherPixels, otherOutput, sizeChecks, startChecks}
 use Rattle.laws.proofs.Lists.{getD-tab, length-part, tab-more}
-use Rattle.laws.proofs.Refusals.{AcceptedPicture, as-stated, none-both, size-numbered, is-sized}
+use Rattle.laws.proofs.Refusals.{as-stated, none-both, size-numbered, is-sized}
 use Rattle.stream.specs.declared.calls.State.{State}
 use Rattle.stream.specs.declared.calls.Started.{Started}
 use Rattle.stream.specs.declared.calls.Stepped.{Stepped}
 use Rattle.stream.specs.Calls.{Began, began, start, started, Called, called, next}
-use Rattle.stream.specs.Runs.{Call, aRow, aDrain, answerOf, Yielded, run, Carried, carried, rowOf, rows, outputs, pictureRow}
-use Rattle.stream.specs.OnePass.{Bytes, acceptedCalls, left}
-use Rattle.stream.proofs.Run.{one-pass, first-rows, accepted-start, length-outputs, next-state, carried-append, run-append, rows-append, outputs-append}
-use Rattle.gray.specs.Streaming.{Streamed, Due, Came, Taken}
+use Rattle.rows.specs.Runs.{Call, aRow, aDrain, answerOf, Yielded, run, Carried, carried, rowOf, rows, outputs, pictureRow}
+use Rattle.rows.specs.OnePass.{Bytes, acceptedCalls, left}
+use Rattle.rows.proofs.Run.{one-pass, first-rows, accepted-start, length-outputs, next-state, carried-append, run-append, rows-append, outputs-append}
+use Rattle.rows.specs.Streaming.{Streamed, Due, Came}
 
 module _ (f : Filter) (p : Picture) where
   abbrev at : ℕ → State
@@ -179,17 +179,3 @@ module _ (f : Filter) (w h : ℕ) (pixels : List ℕ) (k : ℕ) (s : State) (cel
   has-come t row held c =
       let moved = subst (λ (x : State). Came x t pixels row held) (st .is) c in
       (moved .streamed, moved .exact)
-
-  -- the next grown row is the first that the same-size blur takes
-  pub is-taken : (left : ℕ) (row : List ℕ) → AcceptedPicture (recipe f) (picture w h pixels) → k ≡ order (recipe f .columns) / 2
-      → left ≡ order (recipe f .rows) / 2 → length row ≡ fullWidth (recipe f) w → Taken s left pixels row cells
-  is-taken left row ok above half wide =
-      subst (λ (t : State). Taken t left pixels row cells) (sym (st .is))
-      (record {
-        picture = ok;
-        streamed =
-            subst (λ n. Streamed f (picture w h pixels) n (record { filter = f; width = w; height = h; emitted = k }) cells) above
-            (subst (λ (t : State). Streamed f (picture w h pixels) k t cells) (st .is) st);
-        half = half;
-        wide = wide;
-      })

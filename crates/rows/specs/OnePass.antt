@@ -10,8 +10,8 @@ use Rattle.spec.specs.declared.Filter.{Filter}
 use Rattle.spec.specs.Recipe.{recipe, order}
 use Rattle.spec.specs.Picture.{Picture, fullWidth, fullHeight, fullRow}
 use Rattle.spec.specs.Refusals.{check, first, otherPixels, otherOutput}
 use Rattle.stream.specs.Calls.{start}
-use Rattle.stream.specs.Runs.{Call, aRow, aDrain, answerOf, Yielded, run, Carried, carried, rows, outputs, kinds, pictureRow, whole}
+use Rattle.rows.specs.Runs.{Call, aRow, aDrain, answerOf, Yielded, run, Carried, carried, rows, outputs, kinds, pictureRow, whole}
 
 -- pixels are bytes
 abbrev pub Bytes : Picture → Type 0

@@ -1,0 +1,5 @@
+pub mod Honest
+pub mod Yield
+pub mod Run
+pub mod Driving
+pub mod Advancing

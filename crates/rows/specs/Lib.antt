@@ -1,0 +1,4 @@
+pub mod Runs
+pub mod OnePass
+pub mod Streaming
+pub mod Advance

@@ -1,0 +1,40 @@
+// The one pass over a whole picture: the theorem about a whole list of calls, and a call that yields the
+// next grown row.
+ghost use mathlib.Core.Path.{_≡_};
+ghost use Prim.Native.Nat.{_+_, _*_};
+ghost use lib.Dec.{leb};
+ghost use Rattle.stream.specs.Calls.{called};
+ghost use Rattle.rows.specs.Advance.{advance as advanceOf};
+pub use stream::State;
+pub use stream::Stepped;
+use stream::drain;
+use stream::push;
+
+// Whether `len` pixels have row `at` of a picture of this width. It divides, since a product need not
+// fit 64 bits.
+fn has_row(at: usize, width: usize, len: usize) -> bool
+    ensures { λ r. ⌜ r ≡ leb (at * width + width) len ⌝ }
+{
+    if width == 0 { true } else { at < len / width }
+}
+
+// The next grown row of a picture: by a row call while rows of the picture are due, then by a drain.
+// Refused as these are.
+pub fn advance(state: State, pixels: &[u8], out: &mut [u64], cells: &mut [u64]) -> Stepped
+    ensures { λ r. ⌜ called r (now (out .exit)) (now (cells .exit)) ≡ advanceOf state (now (pixels .entry)) (now (out .entry)) (now (cells .entry)) ⌝ }
+{
+    let at = state.emitted;
+    let width = state.width;
+    if at < state.height {
+        if has_row(at, width, pixels.len()) {
+            let from = at * width;
+            let to = from + width;
+            push(state, &pixels[from..to], out, cells)
+        } else {
+            let z: usize = 0;
+            push(state, &pixels[z..z], out, cells)
+        }
+    } else {
+        drain(state, out, cells)
+    }
+}
