@@ -78,7 +78,7 @@ pub fn line(numbers: &[u64], out: &mut [u8]) -> Line
 }
 
 // The line of a refusal, such as `refused 8`, at the front of `out`; its length.
-pub fn refusal_line(number: u8, out: &mut [u8; 63]) -> usize
+pub fn refusal_line(number: u8, out: &mut [u8; 64]) -> usize
     ensures { λ r. ⌜ (r ≡ length (refusalPrinted number)) × (now (out .exit) ≡ refusalPrinted number ++ drop (length (refusalPrinted number)) (now (out .entry))) ⌝ }
 {
     out[0] = 0x72;

@@ -48,7 +48,7 @@ returns : tie.Need-returns
 returns c =
     let args = c .before .before .args in
     let old = args .out .now in
-    let size : length old ≡ 63 = simp length-set at (c .before .put-arg .given .0 .1) in
+    let size : length old ≡ 64 = simp length-set at (c .before .put-arg .given .0 .1) in
     let room : 8 ≤ length old = omega arith in
     let r = c .put .result in
     let e = c .put .ensures .0 in

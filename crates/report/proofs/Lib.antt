@@ -1,0 +1,4 @@
+pub mod Checks
+pub mod Fronts
+pub mod Rows
+pub mod Printing

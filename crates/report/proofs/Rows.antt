@@ -1,0 +1,105 @@
+-- The call `advance` where it is refused, and the line of the row that it leaves.
+-- Assumes nothing.
+use mathlib.Core.Path.{_≡_, refl, sym, ap, _∙_}
+use mathlib.Core.Bool.{true, cond}
+use mathlib.Core.List.{List, []}
+use Prim.Native.Nat.{ℕ, zero, suc, _≤_, _<_}
+use native.Mathlib.Decide.{decLt}
+use native.Mathlib.Omega.{arith}
+use lib.ListN.{length, replicate}
+use borrow.Author.Tests.{lt-ltb, le-ltb}
+use Rattle.spec.specs.Recipe.{recipe}
+use Rattle.spec.specs.Picture.{fullWidth}
+use Rattle.spec.specs.Refusals.{Check, first, either, lent, badState, sizeChecks, rowChecks, drainChecks}
+use Rattle.spec.specs.Program.{line}
+use Rattle.laws.proofs.Refusals.{lent-refused}
+use Rattle.stream.specs.declared.calls.State.{State}
+use Rattle.stream.specs.declared.calls.Stepped.{Stepped}
+use Rattle.stream.specs.Stages.{entering}
+use Rattle.stream.specs.Calls.{stateOf, Called, called, steps, answers, push, drain}
+use Rattle.stream.proofs.States.{bad-refused, first-holds}
+use Rattle.rows.specs.Advance.{rowAt, advance}
+use Rattle.report.specs.Opening.{front}
+use Rattle.report.specs.Lining.{lined, rowLined, next}
+
+-- ---- refused
+
+-- a refused call: its number, the given state, and what was lent as it was
+abbrev refusedCall : ℕ → State → List ℕ → List ℕ → Called
+refusedCall n s out cells = record { number = n; state = s; count = 0; out = out; cells = cells }
+
+answers-refused : (cs : List Check) (s : State) (pixels out cells : List ℕ) (n : ℕ) → first cs ≡ n → (n ≡ 0 → ⊥)
+    → answers cs s pixels out cells ≡ refusedCall n s out cells
+unfolding answers
+answers-refused cs s pixels out cells n e h =
+    lent-refused cs (steps s (entering (recipe (s .filter)) (s .width) pixels) cells) _ n e h ∙ ap (λ k. refusedCall k s out cells) e
+
+-- the given state comes back with a number
+answers-kept : (cs : List Check) (s : State) (pixels out cells : List ℕ) → (answers cs s pixels out cells .number ≡ 0 → ⊥)
+    → answers cs s pixels out cells .state ≡ s
+unfolding answers lent either steps
+answers-kept cs s pixels out cells h = go (steps s (entering (recipe (s .filter)) (s .width) pixels) cells) refl (first cs) h
+  where
+    go : (made : Called) → made .number ≡ 0 → (k : ℕ) → (either k made (refusedCall k s out cells) .number ≡ 0 → ⊥)
+        → either k made (refusedCall k s out cells) .state ≡ s
+    go made z zero g = absurd (g z)
+    go made z (suc k) g = refl
+
+module _ (s : State) (pixels out cells : List ℕ) where
+  -- a row call while rows of the picture are due, then a drain
+  by-row : s .emitted < s .height → advance s pixels out cells ≡ push s (rowAt pixels (s .width) (s .emitted)) out cells
+  unfolding advance
+  by-row h = ap (λ b. cond b (push s (rowAt pixels (s .width) (s .emitted)) out cells) (drain s out cells)) (lt-ltb (s .emitted) (s .height) h)
+
+  by-drain : s .height ≤ s .emitted → advance s pixels out cells ≡ drain s out cells
+  unfolding advance
+  by-drain h = ap (λ b. cond b (push s (rowAt pixels (s .width) (s .emitted)) out cells) (drain s out cells)) (le-ltb (s .emitted) (s .height) h)
+
+  -- 9 for a state whose recipe or sides are refused
+  pub advance-bad : badState (stateOf s) ≡ true → advance s pixels out cells ≡ refusedCall 9 s out cells
+  unfolding push drain rowChecks drainChecks
+  advance-bad e =
+      elim (decLt (s .emitted) (s .height)) [
+        | yes h ↦ by-row h ∙ answers-refused _ s (rowAt pixels (s .width) (s .emitted)) out cells 9 (first-holds (badState (stateOf s)) 9 _ e) (λ z. omega arith)
+        | no h ↦ by-drain (omega arith) ∙ answers-refused _ s [] out cells 9 (first-holds (badState (stateOf s)) 9 _ e) (λ z. omega arith)
+      ]
+
+  pub advance-kept : (advance s pixels out cells .number ≡ 0 → ⊥) → advance s pixels out cells .state ≡ s
+  unfolding push drain
+  advance-kept g =
+      elim (decLt (s .emitted) (s .height)) [
+        | yes h ↦
+            let is = by-row h in
+            ap (λ (a : Called). a .state) is ∙ answers-kept _ s (rowAt pixels (s .width) (s .emitted)) out cells (λ z. g (ap (λ (a : Called). a .number) is ∙ z))
+        | no h ↦
+            let is = by-drain (omega arith) in
+            ap (λ (a : Called). a .state) is ∙ answers-kept _ s [] out cells (λ z. g (ap (λ (a : Called). a .number) is ∙ z))
+      ]
+
+-- ---- its line
+
+module _ (r : Stepped) (row held : List ℕ) (a : Called) (e : called r row held ≡ a) (text : List ℕ) where
+  pub not-lined : (r .refusal ≡ 0 → ⊥) → lined (record { refusal = r .refusal; state = r .state; length = 0 }) held text ≡ rowLined a text
+  unfolding lined rowLined called either
+  not-lined h = go (r .refusal) h ∙ ap (λ x. rowLined x text) e
+    where
+      go : (n : ℕ) → (n ≡ 0 → ⊥)
+          → lined (record { refusal = n; state = r .state; length = 0 }) held text
+          ≡ rowLined (called (record { refusal = n; state = r .state; count = r .count }) row held) text
+      go zero k = absurd (k refl)
+      go (suc n) k = refl
+
+  pub is-lined : r .refusal ≡ 0 → (n : ℕ) (new : List ℕ) → n ≡ length (line row) → new ≡ front (line row) text
+      → lined (record { refusal = 0; state = r .state; length = n }) held new ≡ rowLined a text
+  unfolding lined rowLined called either
+  is-lined z n new p q =
+      (λ i. lined (record { refusal = 0; state = r .state; length = p i }) held (q i))
+      ∙ ap (λ k. rowLined (called (record { refusal = k; state = r .state; count = r .count }) row held) text) (sym z)
+      ∙ ap (λ x. rowLined x text) e
+
+-- a state whose recipe or sides are refused
+pub bad-lined : (s : State) (pixels cells text : List ℕ) (n : ℕ) → first (sizeChecks (recipe (s .filter)) (s .width) (s .height)) ≡ n → (n ≡ 0 → ⊥)
+    → lined (record { refusal = 9; state = s; length = 0 }) cells text ≡ next s pixels cells text
+unfolding next lined rowLined either stateOf
+bad-lined s pixels cells text n e h =
+    ap (λ x. rowLined x text) (sym (advance-bad s pixels (replicate (fullWidth (recipe (s .filter)) (s .width)) 0) cells (bad-refused (stateOf s) n e h)))

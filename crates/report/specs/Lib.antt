@@ -1,0 +1,3 @@
+pub mod Opening
+pub mod Lining
+pub mod Session
