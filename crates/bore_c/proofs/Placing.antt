@@ -1,4 +1,4 @@
--- The answer of `gray::reading` in the three places: nothing on a refusal, otherwise what is read, in its own.
+-- The answer of `sample::reading` in the three places: nothing on a refusal, otherwise what is read, in its own.
 -- Assumes nothing.
 use mathlib.Core.Path.{_≡_, sym, ap, _∙_}
 use mathlib.Core.List.{List}
@@ -7,10 +7,10 @@ use lib.Ieee.{Float}
 use Rattle.spec.specs.Gray.{Reading}
 use Rattle.spec.specs.Refusals.{Check, answer}
 use Rattle.laws.proofs.Refusals.{lent-refused, lent-accepted, read-refused, read-accepted}
-use Rattle.gray.specs.declared.place.Sample.{Sample}
-use Rattle.gray.specs.declared.place.Sampled.{Sampled}
-use Rattle.gray.specs.declared.place.Sampled.the-variants as sampled
-use Rattle.gray.specs.Sampled.{sampleTold, sampledTold}
+use Rattle.sample.specs.declared.Sample.{Sample}
+use Rattle.sample.specs.declared.Sampled.{Sampled}
+use Rattle.sample.specs.declared.Sampled.the-variants as sampled
+use Rattle.sample.specs.Sampled.{sampleTold, sampledTold}
 use Rattle.bore_c.specs.Placed.{Placed, grayOr, sumOr, quotientOr}
 
 module _ (cs : List Check) (v : Reading) (gray sum : ℕ) (quotient : Float) (x : Sampled) (told : sampledTold x ≡ answer cs v) where

@@ -18,16 +18,16 @@ ghost use Rattle.passes.specs.Passed.{Passed};
 ghost use Rattle.stream.specs.Calls.{start, push, drain};
 ghost use Rattle.gray.specs.Rounded.{Rounded};
 ghost use Rattle.gray.specs.Written.{Blurred, Differenced};
-ghost use Rattle.gray.specs.Sampled.{chosen};
+ghost use Rattle.sample.specs.Sampled.{chosen};
 ghost use Rattle.bore_c.specs.Given.{given, givenState, began, called};
 ghost use Rattle.bore_c.specs.Placed.{Placed};
 use equivalence::Comparison;
 use filter::Card;
 use filter::Cells;
 use filter::FullSize;
-use gray::Quantity;
-use gray::Sample;
-use gray::Sampled;
+use sample::Quantity;
+use sample::Sample;
+use sample::Sampled;
 use spec::Cascade;
 use spec::Filter;
 use stream::State;
@@ -510,7 +510,7 @@ fn sample_into(
         ⌜ Placed (readingChecks g p column row) (reading (chosen quantity) g p column row) (now (gray .entry)) (now (sum .entry)) (now (mean .entry))
         r (now (gray .exit)) (now (sum .exit)) (now (mean .exit)) ⌝ }
 {
-    let answer = gray::reading(filter, width, height, pixels, column, row, quantity);
+    let answer = sample::reading(filter, width, height, pixels, column, row, quantity);
     match answer {
         Sampled::Refused(number) => number,
         Sampled::Of(sample) => match sample {

@@ -4,4 +4,3 @@ pub mod Taking
 pub mod Answering
 pub mod Parts
 pub mod Differences
-pub mod Readings

@@ -2,5 +2,4 @@ pub mod Rounded
 pub mod Written
 pub mod Division
 pub mod Taking
-pub mod Sampled
 pub mod Pairs

@@ -1,4 +1,4 @@
--- `bore_c::sample_into` meets its contract: the answer of `gray::reading`, case by case.
+-- `bore_c::sample_into` meets its contract: the answer of `sample::reading`, case by case.
 -- Assumes nothing.
 use borrow.Author.Needs.{needs}
 use Rattle.bore_c.proofs.Placing.{not-placed, is-placed}

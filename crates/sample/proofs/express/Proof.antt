@@ -1,27 +1,20 @@
--- `gray::place::express` meets its contract, in each of the three cases.
+-- `sample::express` meets its contract, in each of the three cases.
 -- Assumes nothing.
-use mathlib.Core.Path.{sym, ap, subst, _∙_}
+use mathlib.Core.Path.{sym, ap, _∙_}
 use native.Mathlib.Omega.{arith}
 use borrow.Author.Needs.{needs}
 use Rattle.spec.specs.Gray.{grayReading, quotientReading, gray, expressed}
-use Rattle.gray.specs.Division.{Divides}
-use Rattle.gray.specs.Sampled.{chosen}
-use Rattle.gray.proofs.place.express.Statement.{statement}
-use Rattle.gray.proofs.place.express.Tie as tie
+use Rattle.sample.specs.Sampled.{chosen}
+use Rattle.sample.proofs.express.Statement.{statement}
+use Rattle.sample.proofs.express.Tie as tie
 
 enum-told : tie.Need-enum-told
 enum-told c = search needs
 
-divisor-of-requires : tie.Need-divisor-of-requires
-divisor-of-requires c κs = search needs
-
-rounded-requires : tie.Need-rounded-requires
-rounded-requires c κs =
-    let d = c .divisor-of .ensures in
-    (subst (λ w. Divides w (c .divisor-of .result)) (sym (d .is)) d, omega (arith, d .is))
-
-cast-t7 : tie.Need-cast-t7
-cast-t7 c = search needs
+shade-requires : tie.Need-shade-requires
+shade-requires c κs =
+    let pre = c .before .before .pre in
+    (pre .0, omega (arith, pre .1, pre .3))
 
 enum-told-2 : tie.Need-enum-told-2
 enum-told-2 c = search needs
@@ -35,10 +28,10 @@ mean-requires c κs = search needs
 returns : tie.Need-returns
 unfolding expressed
 returns c =
-    let told = c .before .before in
-    let args = told .before .before .args in
-    ap grayReading (c .rounded .ensures .0 ∙ ap (λ w. gray w (args .sum)) (c .before .divisor-of .ensures .is))
-    ∙ ap (λ q. expressed (chosen q) (args .weight) (args .sum)) (sym (told .enum-told .given .1))
+    let told = c .before in
+    let start = told .before .before in
+    ap grayReading (c .shade .ensures ∙ ap (λ w. gray w (start .args .sum)) (sym (start .pre .1)))
+    ∙ ap (λ q. expressed (chosen q) (start .args .weight) (start .args .sum)) (sym (told .enum-told .given .1))
 
 returns-2 : tie.Need-returns-2
 unfolding expressed
@@ -57,9 +50,7 @@ express-spec =
     tie.close
     (tie.spec
     enum-told
-    divisor-of-requires
-    rounded-requires
-    cast-t7
+    shade-requires
     enum-told-2
     enum-told-3
     mean-requires

@@ -1,12 +1,12 @@
 -- What each case of a choice and of a reading stands for, and of the answer: the reading, or the number of a refusal.
 use Rattle.spec.specs.Gray.{Reading, grayReading, sumReading, quotientReading, Choice, asGray, asSum, asQuotient}
 use Rattle.spec.specs.Refusals.{Answer, accepted, refused}
-use Rattle.gray.specs.declared.place.Quantity.{Quantity}
-use Rattle.gray.specs.declared.place.Quantity.the-variants as quantity
-use Rattle.gray.specs.declared.place.Sample.{Sample}
-use Rattle.gray.specs.declared.place.Sample.the-variants as sample
-use Rattle.gray.specs.declared.place.Sampled.{Sampled}
-use Rattle.gray.specs.declared.place.Sampled.the-variants as sampled
+use Rattle.sample.specs.declared.Quantity.{Quantity}
+use Rattle.sample.specs.declared.Quantity.the-variants as quantity
+use Rattle.sample.specs.declared.Sample.{Sample}
+use Rattle.sample.specs.declared.Sample.the-variants as sample
+use Rattle.sample.specs.declared.Sampled.{Sampled}
+use Rattle.sample.specs.declared.Sampled.the-variants as sampled
 
 -- which of the three is chosen
 abbrev pub chosen : Quantity → Choice

@@ -1,14 +1,20 @@
--- The reading at a picture place, from what is told of the sum there: the same refusal, or how large the sum can be, and what is read from it.
+-- The reading at a picture place, from what is told of the sum there: the same refusal, or how large the sum can be, and what is read
+-- from it; and the grey of one sum.
 -- Assumes nothing.
 use mathlib.Core.Path.{_≡_, sym, ap, ap₂, _∙_}
-use Prim.Native.Nat.{ℕ, _*_, _^_, _≤_, _<_}
+use mathlib.Core.Bool.{false, _||_}
+use mathlib.Core.List.{List, [], _∷_}
+use Prim.Native.Nat.{ℕ, _*_, _^_, _≤_}
 use native.Mathlib.Omega.{arith}
+use lib.ListN.{length, getD}
+use borrow.Author.Tests.{le-ltb}
+use Rattle.spec.specs.Words.{somewhere}
 use Rattle.spec.specs.Recipe.{Recipe, gain}
 use Rattle.spec.specs.Picture.{Picture}
-use Rattle.spec.specs.Gray.{Reading, Choice, sameColumn, sameRow, sameSum, expressed, reading}
-use Rattle.spec.specs.Refusals.{accepted, refused, first, answer, readingChecks}
+use Rattle.spec.specs.Gray.{gray, grays, Reading, Choice, sameColumn, sameRow, sameSum, expressed, reading}
+use Rattle.spec.specs.Refusals.{accepted, refused, first, answer, tooBright, recipeChecks, readingChecks}
 use Rattle.laws.proofs.Exact.{exact-small}
-use Rattle.laws.proofs.Refusals.{read-refused, read-accepted, answer-refused, answer-accepted}
+use Rattle.laws.proofs.Refusals.{read-refused, read-accepted, answer-refused, answer-accepted, lent-accepted}
 use Rattle.filter.specs.declared.checks.Measures.{Measures}
 use Rattle.filter.specs.Measured.{measured}
 use Rattle.filter.proofs.Refusal.{Known, known, number-is}
@@ -16,7 +22,16 @@ use Rattle.direct.specs.declared.points.Point.{Point}
 use Rattle.direct.specs.declared.points.Point.the-variants as point
 use Rattle.direct.specs.Answers.{pointTold}
 use Rattle.direct.proofs.Reading.{is-inside}
-use Rattle.rows.specs.OnePass.{Bytes}
+use Rattle.gray.specs.Rounded.{Rounded}
+use Rattle.gray.proofs.Grays.{by-brightness}
+
+-- the grey of a sum, by rounding a row of one
+pub only-gray : (r : Recipe) (s number : ℕ) (out new : List ℕ) → first (recipeChecks r) ≡ 0 → s ≤ 255 * gain r → length out ≡ 1
+    → Rounded r (s ∷ []) out number new → getD new 0 0 ≡ gray (gain r) s
+unfolding tooBright somewhere grays
+only-gray r s number out new none small one told =
+    let dark : false ≡ tooBright (gain r) (s ∷ []) = sym (ap (λ b. b || false) (le-ltb (255 * gain r) s small)) in
+    ap (λ l. getD l 0 0) (told .grays ∙ lent-accepted _ _ out (by-brightness r (s ∷ []) out none one false dark))
 
 module _ (r : Recipe) (p : Picture) (i j : ℕ) (x : Point) (told : pointTold x ≡ answer (readingChecks r p i j) (sameSum r p i j)) where
   -- the sum is refused
@@ -33,13 +48,14 @@ module _ (r : Recipe) (p : Picture) (i j : ℕ) (x : Point) (told : pointTold x 
     measures : Known r m
     measures = known r m is (number-is r m is ∙ is-inside r p i j (sum .0) .none)
 
-    -- a weight to divide by, and a sum of bytes
-    pub can-read : Bytes p → (0 < m .gain) × (m .gain ≤ 2 ^ 44) × (s ≤ 255 * m .gain)
+    -- an accepted recipe, its weight, and a sum of bytes
+    pub can-read : ((k : ℕ) → getD (p .pixels) k 0 ≤ 255)
+        → (first (recipeChecks r) ≡ 0) × (m .gain ≡ gain r) × (m .gain ≤ 2 ^ 44) × (s ≤ 255 * m .gain)
     unfolding sameSum
     can-read small =
         let k = measures in
         let most = exact-small r p small (sameColumn r i) (sameRow r j) in
-        (omega (arith, k .weight, k .accepted .notZero), omega (arith, k .weight, k .accepted .light), omega (arith, k .weight, sum .1, most))
+        (k .none, k .weight, omega (arith, k .weight, k .accepted .light), omega (arith, k .weight, sum .1, most))
 
     pub is-read : (c : Choice) (v : Reading) → v ≡ expressed c (m .gain) s → accepted v ≡ answer (readingChecks r p i j) (reading c r p i j)
     unfolding reading

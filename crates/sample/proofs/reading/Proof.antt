@@ -1,10 +1,10 @@
--- `gray::place::reading` meets its contract: the refusal of the sum, or the sum as the quantity that is chosen.
+-- `sample::reading` meets its contract: the refusal of the sum, or the sum as the quantity that is chosen.
 -- Assumes nothing.
 use native.Mathlib.Omega.{arith}
 use borrow.Author.Needs.{needs}
-use Rattle.gray.proofs.Readings.{not-read, can-read, is-read}
-use Rattle.gray.proofs.place.reading.Statement.{statement}
-use Rattle.gray.proofs.place.reading.Tie as tie
+use Rattle.sample.proofs.Readings.{not-read, can-read, is-read}
+use Rattle.sample.proofs.reading.Statement.{statement}
+use Rattle.sample.proofs.reading.Tie as tie
 
 point-sum-requires : tie.Need-point-sum-requires
 point-sum-requires c κs = search needs

@@ -1,4 +1,4 @@
--- `gray::place::mean` meets its contract: a 64-bit float holds both integers, and the quotient is one division.
+-- `sample::mean` meets its contract: a 64-bit float holds both integers, and the quotient is one division.
 -- Assumes nothing.
 use Prim.Native.Nat.{_^_}
 use native.Mathlib.Omega.{arith}
@@ -6,8 +6,8 @@ use borrow.Author.Needs.{needs}
 use lib.Dec.{le→leb}
 use lib.Ieee.{inFloat}
 use Rattle.spec.specs.Gray.{ratio, float}
-use Rattle.gray.proofs.place.mean.Statement.{statement}
-use Rattle.gray.proofs.place.mean.Tie as tie
+use Rattle.sample.proofs.mean.Statement.{statement}
+use Rattle.sample.proofs.mean.Tie as tie
 
 int-to-float-result : tie.Need-int-to-float-result
 unfolding inFloat

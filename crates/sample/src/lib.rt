@@ -1,16 +1,15 @@
-// The reading at one picture place, without work cells.
+// Document 01's reading at one picture place, without work cells.
 ghost use mathlib.Core.Path.{_≡_};
-ghost use Prim.Native.Nat.{_*_, _^_, _≤_, _<_};
-ghost use Rattle.spec.specs.Recipe.{recipe};
+ghost use Prim.Native.Nat.{_*_, _^_, _≤_};
+ghost use Rattle.spec.specs.Recipe.{recipe, gain};
 ghost use Rattle.spec.specs.Picture.{picture};
-ghost use Rattle.spec.specs.Gray.{ratio as ratioOf, expressed, reading as readingOf};
-ghost use Rattle.spec.specs.Refusals.{answer, readingChecks};
-ghost use Rattle.gray.specs.Sampled.{chosen, sampleTold, sampledTold};
-use crate::rounding::divisor_of;
-use crate::rounding::rounded;
+ghost use Rattle.spec.specs.Gray.{gray as grayOf, ratio as ratioOf, expressed, reading as readingOf};
+ghost use Rattle.spec.specs.Refusals.{first, answer, recipeChecks, readingChecks};
+ghost use Rattle.sample.specs.Sampled.{chosen, sampleTold, sampledTold};
 use direct::Point;
 use direct::point_sum;
 use filter::measure;
+use gray::round;
 use spec::Filter;
 
 // What is read: the grey, the exact sum, or the quotient of sum and weight.
@@ -41,13 +40,24 @@ fn mean(sum: u64, weight: u64) -> f64
     (sum as f64) / (weight as f64)
 }
 
+// The grey of a sum, as rounding has it for a row of one sum.
+fn shade(filter: Filter, sum: u64) -> u8
+    requires { ⌜ (first (recipeChecks (recipe filter)) ≡ 0) × (sum ≤ 255 * gain (recipe filter)) ⌝ }
+    ensures { λ r. ⌜ r ≡ grayOf (gain (recipe filter)) sum ⌝ }
+{
+    let sums = [sum];
+    let mut out = [0u8; 1];
+    round(filter, &sums, &mut out);
+    out[0]
+}
+
 // A sum as the quantity that is chosen.
-fn express(sum: u64, weight: u64, quantity: Quantity) -> Sample
-    requires { ⌜ (0 < weight) × (weight ≤ 2 ^ 44) × (sum ≤ 255 * weight) ⌝ }
+fn express(filter: Filter, sum: u64, weight: u64, quantity: Quantity) -> Sample
+    requires { ⌜ (first (recipeChecks (recipe filter)) ≡ 0) × (weight ≡ gain (recipe filter)) × (weight ≤ 2 ^ 44) × (sum ≤ 255 * weight) ⌝ }
     ensures { λ r. ⌜ sampleTold r ≡ expressed (chosen quantity) weight sum ⌝ }
 {
     match quantity {
-        Quantity::Gray => Sample::Gray(rounded(sum, divisor_of(weight)) as u8),
+        Quantity::Gray => Sample::Gray(shade(filter, sum)),
         Quantity::Sum => Sample::Sum(sum),
         Quantity::Mean => Sample::Mean(mean(sum, weight)),
     }
@@ -71,7 +81,7 @@ pub fn reading(
         Point::Refused(number) => Sampled::Refused(number),
         Point::Sum(sum) => {
             let m = measure(filter);
-            Sampled::Of(express(sum, m.gain, quantity))
+            Sampled::Of(express(filter, sum, m.gain, quantity))
         }
     }
 }
