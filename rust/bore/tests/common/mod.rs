@@ -4,9 +4,11 @@
 //! `causes` refusals on purpose, and the comparison of each call with the
 //! reference: in `agree` the calls on filters, in `agree_methods` direct and
 //! pass by pass, in `agree_stream` the one pass, whose work cells `cells`
-//! models, in `agree_greys` rounding, blur, difference and readings. `accepted`
-//! has calls that have to be accepted for tests of their answers alone, `three`
-//! all three methods for tests of the sums alone.
+//! models, in `agree_greys` rounding, blur, difference and readings, in
+//! `agree_jobs` the calls on job files, which `job_parts` makes by parts and
+//! `any_jobs` at random. `accepted` has calls that have to be accepted for tests
+//! of their answers alone, `three` all three methods for tests of the sums
+//! alone, and `program` runs the program on an input.
 //!
 //! The environment sets the random cases: BORE_CASES is their number for each
 //! test, BORE_SEED the seed of the first; each case has the next seed. A test
@@ -18,14 +20,18 @@
 pub mod accepted;
 pub mod agree;
 pub mod agree_greys;
+pub mod agree_jobs;
 pub mod agree_methods;
 pub mod agree_stream;
+pub mod any_jobs;
 pub mod causes;
 pub mod cells;
+pub mod job_parts;
 pub mod lent;
 pub mod near_misses;
 pub mod pairs;
 pub mod pictures;
+pub mod program;
 pub mod three;
 
 use bore::{Cascade, Filter, State};
