@@ -140,13 +140,25 @@ impl Case {
     }
 }
 
+/// Prints its seed if the case fails.
+struct Seed(u64);
+
+impl Drop for Seed {
+    fn drop(&mut self) {
+        if std::thread::panicking() {
+            eprintln!("seed {}", self.0);
+        }
+    }
+}
+
 /// Runs a comparison on one seed for every `share` of the random cases.
-pub fn each_seed(share: u64, compare: impl FnMut(u64)) {
+pub fn each_seed(share: u64, mut compare: impl FnMut(u64)) {
     let first = set_number("BORE_SEED").unwrap_or(0);
     let cases = set_number("BORE_CASES").unwrap_or(CASES);
-    (first..)
-        .take((cases / share).max(1) as usize)
-        .for_each(compare);
+    for seed in (first..).take((cases / share).max(1) as usize) {
+        let _shown = Seed(seed);
+        compare(seed);
+    }
 }
 
 /// Runs a comparison on every random case.
