@@ -1,24 +1,9 @@
 //! The comparing call in safe Rust: the checks of both recipes, then for each
 //! axis two tables of how often each width occurs.
 
+use crate::checks::weight_of;
 use crate::work::noise;
 use bore::{Cascade, Filter};
-
-/// The largest reach.
-const MOST_REACH: u32 = 255;
-/// The largest weight.
-const MOST_WEIGHT: u64 = 1 << 44;
-
-/// The reach of a list in which no width is 0.
-fn reach(list: &[u8]) -> u32 {
-    list.iter().map(|&n| u32::from(n) - 1).sum()
-}
-
-/// The weight of a list, held just above the largest one.
-fn weight(list: &[u8]) -> u64 {
-    let times = |weight: u64, &n: &u8| (weight * u64::from(n)).min(MOST_WEIGHT + 1);
-    list.iter().fold(1, times)
-}
 
 fn list(cascade: &Cascade) -> Result<&[u8], u8> {
     let count = usize::from(cascade.count);
@@ -28,16 +13,7 @@ fn list(cascade: &Cascade) -> Result<&[u8], u8> {
 /// The lists of a filter, or its number.
 fn lists(filter: &Filter) -> Result<[&[u8]; 2], u8> {
     let lists = [list(&filter.rows)?, list(&filter.columns)?];
-    if lists.iter().any(|list| list.contains(&0)) {
-        return Err(2);
-    }
-    if lists.iter().any(|list| reach(list) > MOST_REACH) {
-        return Err(3);
-    }
-    let [rows, columns] = lists.map(|list| u128::from(weight(list)));
-    if rows * columns > MOST_WEIGHT.into() {
-        return Err(4);
-    }
+    weight_of(lists)?;
     Ok(lists)
 }
 

@@ -2,7 +2,7 @@
 //! row through one row of sums, whose middle part is rounded into the output.
 
 use crate::gray_work::{Blur, Difference, Recipe};
-use crate::stream::next_row;
+use crate::stages::next_row;
 use crate::work::reach;
 
 /// The largest width of a grown row.

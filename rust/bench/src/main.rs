@@ -6,13 +6,18 @@
 
 #![forbid(unsafe_code)]
 
+mod checks;
 mod convolution;
 mod direct;
 mod equivalent;
 mod gray_tables;
 mod gray_work;
 mod greys;
+mod job_tables;
+mod jobs;
 mod passes;
+mod programs;
+mod stages;
 mod stream;
 mod timing;
 mod work;
@@ -201,4 +206,8 @@ fn main() {
     gray_tables::memory();
     println!();
     gray_tables::readings();
+    println!();
+    job_tables::files();
+    println!();
+    job_tables::program();
 }

@@ -3,13 +3,17 @@
 //!
 //! Every call returns document 01's refusal number, 0 where it is accepted,
 //! and writes its values to what the caller lends. A refused call writes
-//! nothing, but for the state of a refused start and the count of a refused
-//! push or drain, which become zeros. To add a call, declare it in `raw` and
-//! give it a function here.
+//! nothing, but for the state of a refused start, the count of a refused push
+//! or drain and the job of a refused `read_job`, which become zeros. To
+//! add a call, declare it in `raw` and give it a function here; those on jobs
+//! are in `job`.
 
 #![deny(unsafe_code)]
 
+mod job;
 mod raw;
+
+pub use job::{job_size, read_job, write_job, Job};
 
 /// The widths of one axis (document 01: a row list or a column list). Only the
 /// first `count` of the 48 bytes have a meaning; a count above 48 is refused.

@@ -8,7 +8,7 @@
 
 #![allow(unsafe_code)]
 
-use crate::{Filter, State};
+use crate::{Filter, Job, State};
 
 unsafe extern "C" {
     pub safe fn bore_check(
@@ -231,6 +231,41 @@ unsafe extern "C" {
         column: usize,
         row: usize,
         mean: &mut f64,
+    ) -> u8;
+
+    fn bore_read_job(
+        bytes: *const u8,
+        bytes_len: usize,
+        row_count: &mut u8,
+        rows: &mut [u8; 48],
+        column_count: &mut u8,
+        columns: &mut [u8; 48],
+        width: &mut usize,
+        height: &mut usize,
+        offset: &mut usize,
+    ) -> u8;
+
+    fn bore_write_job(
+        row_count: u8,
+        rows: &[u8; 48],
+        column_count: u8,
+        columns: &[u8; 48],
+        width: usize,
+        height: usize,
+        pixels: *const u8,
+        pixels_len: usize,
+        out: *mut u8,
+        out_len: usize,
+    ) -> u8;
+
+    pub safe fn bore_job_size(
+        row_count: u8,
+        rows: &[u8; 48],
+        column_count: u8,
+        columns: &[u8; 48],
+        width: usize,
+        height: usize,
+        size: &mut usize,
     ) -> u8;
 }
 
@@ -538,4 +573,46 @@ pub fn sample_mean(
 ) -> u8 {
     // SAFETY: the call is one of the library's.
     unsafe { read(bore_sample_mean, filter, width, height, pixels, place, mean) }
+}
+
+pub fn read_job(bytes: &[u8], job: &mut Job) -> u8 {
+    // SAFETY: the pointer and the length are those of one slice.
+    unsafe {
+        bore_read_job(
+            bytes.as_ptr(),
+            bytes.len(),
+            &mut job.filter.rows.count,
+            &mut job.filter.rows.widths,
+            &mut job.filter.columns.count,
+            &mut job.filter.columns.widths,
+            &mut job.width,
+            &mut job.height,
+            &mut job.offset,
+        )
+    }
+}
+
+pub fn write_job(
+    filter: &Filter,
+    width: usize,
+    height: usize,
+    pixels: &[u8],
+    out: &mut [u8],
+) -> u8 {
+    // SAFETY: each pointer and the length after it are those of one slice; the
+    // one that is written is lent to this call alone.
+    unsafe {
+        bore_write_job(
+            filter.rows.count,
+            &filter.rows.widths,
+            filter.columns.count,
+            &filter.columns.widths,
+            width,
+            height,
+            pixels.as_ptr(),
+            pixels.len(),
+            out.as_mut_ptr(),
+            out.len(),
+        )
+    }
 }

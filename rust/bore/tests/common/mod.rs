@@ -4,9 +4,11 @@
 //! `causes` refusals on purpose, and the comparison of each call with the
 //! reference: in `agree` the calls on filters, in `agree_methods` direct and
 //! pass by pass, in `agree_stream` the one pass, whose work cells `cells`
-//! models, in `agree_greys` rounding, blur, difference and readings. `accepted`
-//! has calls that have to be accepted for tests of their answers alone, `three`
-//! all three methods for tests of the sums alone.
+//! models, in `agree_greys` rounding, blur, difference and readings, in
+//! `agree_jobs` the calls on job files, which `job_parts` makes by parts and
+//! `any_jobs` at random. `accepted` has calls that have to be accepted for tests
+//! of their answers alone, `three` all three methods for tests of the sums
+//! alone, and `program` runs the program on an input.
 //!
 //! The environment sets the random cases: BORE_CASES is their number for each
 //! test, BORE_SEED the seed of the first; each case has the next seed. A test
@@ -18,14 +20,18 @@
 pub mod accepted;
 pub mod agree;
 pub mod agree_greys;
+pub mod agree_jobs;
 pub mod agree_methods;
 pub mod agree_stream;
+pub mod any_jobs;
 pub mod causes;
 pub mod cells;
+pub mod job_parts;
 pub mod lent;
 pub mod near_misses;
 pub mod pairs;
 pub mod pictures;
+pub mod program;
 pub mod three;
 
 use bore::{Cascade, Filter, State};
@@ -134,13 +140,25 @@ impl Case {
     }
 }
 
+/// Prints its seed if the case fails.
+struct Seed(u64);
+
+impl Drop for Seed {
+    fn drop(&mut self) {
+        if std::thread::panicking() {
+            eprintln!("seed {}", self.0);
+        }
+    }
+}
+
 /// Runs a comparison on one seed for every `share` of the random cases.
-pub fn each_seed(share: u64, compare: impl FnMut(u64)) {
+pub fn each_seed(share: u64, mut compare: impl FnMut(u64)) {
     let first = set_number("BORE_SEED").unwrap_or(0);
     let cases = set_number("BORE_CASES").unwrap_or(CASES);
-    (first..)
-        .take((cases / share).max(1) as usize)
-        .for_each(compare);
+    for seed in (first..).take((cases / share).max(1) as usize) {
+        let _shown = Seed(seed);
+        compare(seed);
+    }
 }
 
 /// Runs a comparison on every random case.
