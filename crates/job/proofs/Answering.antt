@@ -98,38 +98,31 @@ module _ (bytes : List ℕ) where
     unfolding first check jobChecks
     long-number e = rw (head, e) refl
 
-    long : tooLong (jobRecipe bytes) ≡ true → noJob 1 ≡ jobRead bytes
-    long e = not-read 1 (long-number e) (λ q. omega arith)
+    pub by-long : (ltb 48 (getD bytes 5 0) || ltb 48 (getD bytes 6 0)) ≡ true → noJob 1 ≡ jobRead bytes
+    by-long e = not-read 1 (long-number (by-counts bytes ∙ e)) (λ q. omega arith)
 
-    pub by-rows : 48 < getD bytes 5 0 → noJob 1 ≡ jobRead bytes
-    by-rows h = long (by-counts bytes ∙ ap (λ b. b || ltb 48 (getD bytes 6 0)) (lt-ltb 48 (getD bytes 5 0) h))
+    module _ (few : (ltb 48 (getD bytes 5 0) || ltb 48 (getD bytes 6 0)) ≡ false) where
+      short : tooLong (jobRecipe bytes) ≡ false
+      short = by-counts bytes ∙ few
 
-    module _ (rows : getD bytes 5 0 ≤ 48) where
-      pub by-columns : 48 < getD bytes 6 0 → noJob 1 ≡ jobRead bytes
-      by-columns h = long (by-counts bytes ∙ ap₂ _||_ (le-ltb 48 (getD bytes 5 0) rows) (lt-ltb 48 (getD bytes 6 0) h))
+      cut-number : cutShort bytes ≡ true → first (jobChecks bytes) ≡ 14
+      unfolding first check jobChecks
+      cut-number e = rw (head, short, e) refl
 
-      module _ (columns : getD bytes 6 0 ≤ 48) where
-        short : tooLong (jobRecipe bytes) ≡ false
-        short = by-counts bytes ∙ ap₂ _||_ (le-ltb 48 (getD bytes 5 0) rows) (le-ltb 48 (getD bytes 6 0) columns)
+      pub by-cut : length bytes < 11 + getD bytes 5 0 + getD bytes 6 0 → noJob 14 ≡ jobRead bytes
+      unfolding cutShort
+      by-cut h = not-read 14 (cut-number (lt-ltb (length bytes) _ (omega (arith, job-length bytes 0 0)))) (λ q. omega arith)
 
-        cut-number : cutShort bytes ≡ true → first (jobChecks bytes) ≡ 14
-        unfolding first check jobChecks
-        cut-number e = rw (head, short, e) refl
+      rest-number : cutShort bytes ≡ false → first (jobChecks bytes) ≡ first (restChecks bytes)
+      unfolding first check jobChecks restChecks
+      rest-number e = rw (head, short, e) refl
 
-        pub by-cut : length bytes < 11 + getD bytes 5 0 + getD bytes 6 0 → noJob 14 ≡ jobRead bytes
-        unfolding cutShort
-        by-cut h = not-read 14 (cut-number (lt-ltb (length bytes) _ (omega (arith, job-length bytes 0 0)))) (λ q. omega arith)
-
-        rest-number : cutShort bytes ≡ false → first (jobChecks bytes) ≡ first (restChecks bytes)
-        unfolding first check jobChecks restChecks
-        rest-number e = rw (head, short, e) refl
-
-        -- lists and sides are all there: the checks that are left decide
-        pub by-rest : 11 + getD bytes 5 0 + getD bytes 6 0 ≤ length bytes → restRead bytes ≡ jobRead bytes
-        unfolding cutShort restRead jobRead lent
-        by-rest h =
-            let whole : cutShort bytes ≡ false = le-ltb (length bytes) _ (omega (arith, job-length bytes 0 0)) in
-            ap (λ n. either n (jobTold bytes) (noJob n)) (sym (rest-number whole))
+      -- lists and sides are all there: the checks that are left decide
+      pub by-rest : 11 + getD bytes 5 0 + getD bytes 6 0 ≤ length bytes → restRead bytes ≡ jobRead bytes
+      unfolding cutShort restRead jobRead lent
+      by-rest h =
+          let whole : cutShort bytes ≡ false = le-ltb (length bytes) _ (omega (arith, job-length bytes 0 0)) in
+          ap (λ n. either n (jobTold bytes) (noJob n)) (sym (rest-number whole))
 
   -- the checks that are left: by the recipe and the sides, by the total length, or what the file says
   not-rest : (n : ℕ) → first (restChecks bytes) ≡ n → (n ≡ 0 → ⊥) → noJob n ≡ restRead bytes

@@ -152,7 +152,7 @@ read-file r p z =
     let same : first (sizeChecks (jobRecipe (file r p)) (jobWidth (file r p)) (jobHeight (file r p))) ≡ 0 =
     (λ i. first (sizeChecks (lists r p i) (width r p (k .sides) i) (height r p (k .sides) i))) ∙ sized in
     sym (rest-all (file r p) same (job-total r p (k .sides) (k .size))
-    ∙ by-rest (file r p) (good-head r p) (k .recipe .rowsShort) (k .recipe .columnsShort) (omega (arith, file-length r p)))
+    ∙ by-rest (file r p) (good-head r p) (ap₂ _||_ (le-ltb 48 (length (r .rows)) (k .recipe .rowsShort)) (le-ltb 48 (length (r .columns)) (k .recipe .columnsShort))) (omega (arith, file-length r p)))
 
 pub read-back : ReadBack
 unfolding readPicture jobTold

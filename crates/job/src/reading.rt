@@ -1,6 +1,8 @@
 // Reading a job.
 ghost use mathlib.Core.Path.{_≡_};
+ghost use mathlib.Core.Bool.{_||_};
 ghost use Prim.Native.Nat.{_+_, _≤_, _<_};
+ghost use lib.Dec.{ltb};
 ghost use lib.ListN.{length, getD};
 ghost use Rattle.spec.specs.Words.{part};
 ghost use Rattle.spec.specs.Job.{read16 as read16Of};
@@ -73,6 +75,17 @@ fn bad_head(bytes: &[u8]) -> bool
     }
 }
 
+// 1: a list is longer than 48.
+fn too_long(row_count: u8, column_count: u8) -> bool
+    ensures { λ r. ⌜ r ≡ (ltb 48 «row_count» || ltb 48 «column_count») ⌝ }
+{
+    if 48 < row_count {
+        true
+    } else {
+        48 < column_count
+    }
+}
+
 // The list that stands at a place, with zeros past it.
 fn cascade_at(bytes: &[u8], at: usize, count: u8) -> Cascade
     requires { ⌜ (count ≤ 48) × (at + count ≤ length (now bytes)) ⌝ }
@@ -127,10 +140,7 @@ pub fn read(bytes: &[u8]) -> Job
     }
     let row_count = bytes[5];
     let column_count = bytes[6];
-    if 48 < row_count {
-        return no_job(1);
-    }
-    if 48 < column_count {
+    if too_long(row_count, column_count) {
         return no_job(1);
     }
     if bytes.len() < 11 + wide(row_count) + wide(column_count) {

@@ -55,11 +55,8 @@ pub extern "C" fn bore_job_size(
     ensures { λ r. let g = given «row_count» (now (rows .entry)) «column_count» (now (columns .entry)) in let cs = sizeChecks g width height in
         ⌜ (r ≡ first cs) × (now (size .exit) ≡ lent cs (jobLength g width height) (now (size .entry))) ⌝ }
 {
-    let answer = job::size(
-        filter_of(row_count, rows, column_count, columns),
-        width,
-        height,
-    );
+    let filter = filter_of(row_count, rows, column_count, columns);
+    let answer = job::size(filter, width, height);
     match answer {
         FileSize::Refused(number) => number,
         FileSize::Bytes(n) => {
@@ -84,11 +81,6 @@ pub extern "C" fn bore_write_job(
     ensures { λ r. let g = given «row_count» (now (rows .entry)) «column_count» (now (columns .entry)) in
         ⌜ Written g (picture width height (now (pixels .entry))) (now (out .entry)) r (now (out .exit)) ⌝ }
 {
-    job::write(
-        filter_of(row_count, rows, column_count, columns),
-        width,
-        height,
-        pixels,
-        out,
-    )
+    let recipe = filter_of(row_count, rows, column_count, columns);
+    job::write(recipe, width, height, pixels, out)
 }

@@ -1,13 +1,15 @@
 -- `job::reading::read` meets its contract: head, counts and length, and then by that of `rest`.
 -- Assumes nothing.
 use mathlib.Core.Path.{_≡_, refl, sym, _∙_}
-use mathlib.Core.Bool.{false}
-use Prim.Native.Nat.{_+_, _≤_, _<_}
+use mathlib.Core.Bool.{false, _||_}
 use native.Mathlib.Omega.{arith}
 use borrow.Author.Needs.{needs}
-use lib.ListN.{length, getD}
+use lib.Dec.{ltb}
+use lib.ListN.{getD}
+use borrow.Author.Tests.{ltb-false}
 use Rattle.spec.specs.Refusals.{badHead}
-use Rattle.job.proofs.Answering.{by-head, seven, by-rows, by-columns, by-cut, by-rest}
+use Rattle.laws.proofs.Numbers.{neither}
+use Rattle.job.proofs.Answering.{by-head, seven, by-long, by-cut, by-rest}
 use Rattle.job.proofs.reading.read.Statement.{statement}
 use Rattle.job.proofs.reading.read.Tie as tie
 
@@ -29,47 +31,53 @@ shared-slice-read-row-count c = omega (arith, seven _ (good-head (c .before)))
 shared-slice-read-column-count : tie.Need-shared-slice-read-column-count
 shared-slice-read-column-count c = omega (arith, seven _ (good-head (c .before .before)))
 
+too-long-requires : tie.Need-too-long-requires
+too-long-requires c κs = search needs
+
 no-job-requires-2 : tie.Need-no-job-requires-2
 no-job-requires-2 c κs = search needs
 
 returns-2 : tie.Need-returns-2
-returns-2 c = c .no-job2 .ensures ∙ by-rows _ (good-head (c .before .before .before .before)) (c .before .if2 .taken)
-
-no-job-requires-3 : tie.Need-no-job-requires-3
-no-job-requires-3 c κs = search needs
-
-returns-3 : tie.Need-returns-3
-returns-3 c = c .no-job3 .ensures ∙ by-columns _ (good-head (c .before .before .before .before .before)) (c .before .before .if2 .left) (c .before .if3 .taken)
+returns-2 c = c .no-job2 .ensures ∙ by-long _ (good-head (c .before .before .before .before .before)) (sym (c .before .before .too-long .ensures) ∙ c .before .if2 .taken)
 
 wide-requires : tie.Need-wide-requires
 wide-requires c κs = search needs
 
-add-if4 : tie.Need-add-if4
-add-if4 c = search needs
+add-if3 : tie.Need-add-if3
+add-if3 c = search needs
 
 wide-requires-2 : tie.Need-wide-requires-2
 wide-requires-2 c κs = search needs
 
-add-if4-2 : tie.Need-add-if4-2
-add-if4-2 c = search needs
+add-if3-2 : tie.Need-add-if3-2
+add-if3-2 c = search needs
 
-no-job-requires-4 : tie.Need-no-job-requires-4
-no-job-requires-4 c κs = search needs
+no-job-requires-3 : tie.Need-no-job-requires-3
+no-job-requires-3 c κs = search needs
 
-returns-4 : tie.Need-returns-4
-returns-4 c =
-    let d = c .before .before .before .before in
-    c .no-job4 .ensures ∙ by-cut _ (good-head (c .before .before .before .before .before .before .before .before)) (d .before .if2 .left) (d .if3 .left) (omega arith)
+-- neither list is too long
+few : (c : tie.Else2) →
+    let bytes = c .before .before .before .before .before .before .before .args .bytes .now in
+    (ltb 48 (getD bytes 5 0) || ltb 48 (getD bytes 6 0)) ≡ false
+few c = sym (c .before .too-long .ensures) ∙ c .if2 .left
+
+returns-3 : tie.Need-returns-3
+returns-3 c = c .no-job3 .ensures ∙ by-cut _ (good-head (c .before .before .before .before .before .before .before .before)) (few (c .before .before .before .before)) (omega arith)
 
 rest-requires : tie.Need-rest-requires
 rest-requires c κs =
-    let d = c .before .before .before in
-    record { rowCount = refl; columnCount = refl; rowsShort = d .before .if2 .left; columnsShort = d .if3 .left; long = omega arith }
+    let bytes = c .before .before .before .before .before .before .before .before .before .before .args .bytes .now in
+    let counts = neither (ltb 48 (getD bytes 5 0)) (ltb 48 (getD bytes 6 0)) (few (c .before .before .before)) in
+    record {
+      rowCount = refl;
+      columnCount = refl;
+      rowsShort = ltb-false 48 (getD bytes 5 0) (counts .0);
+      columnsShort = ltb-false 48 (getD bytes 6 0) (counts .1);
+      long = omega arith;
+    }
 
-returns-5 : tie.Need-returns-5
-returns-5 c =
-    let d = c .before .before .before .before in
-    c .rest .ensures ∙ by-rest _ (good-head (c .before .before .before .before .before .before .before .before)) (d .before .if2 .left) (d .if3 .left) (omega arith)
+returns-4 : tie.Need-returns-4
+returns-4 c = c .rest .ensures ∙ by-rest _ (good-head (c .before .before .before .before .before .before .before .before)) (few (c .before .before .before .before)) (omega arith)
 
 pub read-spec : {M : Type 1} → statement M
 read-spec =
@@ -80,15 +88,14 @@ read-spec =
     returns
     shared-slice-read-row-count
     shared-slice-read-column-count
+    too-long-requires
     no-job-requires-2
     returns-2
+    wide-requires
+    add-if3
+    wide-requires-2
+    add-if3-2
     no-job-requires-3
     returns-3
-    wide-requires
-    add-if4
-    wide-requires-2
-    add-if4-2
-    no-job-requires-4
-    returns-4
     rest-requires
-    returns-5)
+    returns-4)
