@@ -1,4 +1,4 @@
-//! The calls on job files.
+//! The calls on job files, of the static library job_c.
 
 use crate::{raw, Filter};
 

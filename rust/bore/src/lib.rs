@@ -1,5 +1,5 @@
-//! Safe wrapper over the static library bore_c: the bore wall picture filter
-//! of document 01.
+//! Safe wrapper over the static libraries bore_c and, for job files, job_c: the
+//! bore wall picture filter of document 01.
 //!
 //! Every call returns document 01's refusal number, 0 where it is accepted,
 //! and writes its values to what the caller lends. A refused call writes

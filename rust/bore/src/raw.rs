@@ -1,7 +1,7 @@
-//! The declarations of the static library's functions, and a safe form of each
+//! The declarations of the static libraries' functions, and a safe form of each
 //! one that takes a pointer and a length. No other file has unsafe code.
 //!
-//! Nothing compares these declarations with the library's source: keep each of
+//! Nothing compares these declarations with the libraries' source: keep each of
 //! them equal to the exported function, argument by argument. A call of which
 //! every argument is a number or a reference is declared safe. A call with a
 //! slice is declared with a pointer and a length, and gets a function below.
