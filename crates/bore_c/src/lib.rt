@@ -36,14 +36,16 @@ use stream::State;
 pub fn filter_of(row_count: u8, rows: &[u8; 48], column_count: u8, columns: &[u8; 48]) -> Filter
     ensures { λ r. ⌜ recipe r ≡ given «row_count» (now (rows .entry)) «column_count» (now (columns .entry)) ⌝ }
 {
+    let along = *rows;
+    let down = *columns;
     Filter {
         rows: Cascade {
             count: row_count,
-            widths: *rows,
+            widths: along,
         },
         columns: Cascade {
             count: column_count,
-            widths: *columns,
+            widths: down,
         },
     }
 }

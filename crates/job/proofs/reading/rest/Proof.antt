@@ -139,7 +139,7 @@ no-job-requires-2 c κs = search needs
 returns : tie.Need-returns
 returns c =
     let d = c .before .before in
-    c .no-job2 .ensures ∙ rest-total _ (sized d) (λ e. c .before .if1 .taken (e ∙ sym (stated d)))
+    c .no-job2 .ensures ∙ rest-total _ (sized d) (λ e. omega (arith, stated d))
 
 returns-2 : tie.Need-returns-2
 returns-2 c =
@@ -152,7 +152,7 @@ returns-3 c =
     let d = c .before in
     let k = found (d .before .before .before) in
     (λ i. record { refusal = 0; filter = k .filter i; width = k .width i; height = k .height i; offset = k .offset i })
-    ∙ rest-all _ (sized d) (c .if1 .left ∙ stated d)
+    ∙ rest-all _ (sized d) (omega (arith, stated d))
 
 pub rest-spec : {M : Type 1} → statement M
 rest-spec =
