@@ -21,6 +21,7 @@ use Rattle.stream.proofs.States.{bad-refused, first-holds}
 use Rattle.rows.specs.Advance.{rowAt, advance}
 use Rattle.report.specs.Opening.{front}
 use Rattle.report.specs.Lining.{lined, rowLined, next}
+use Rattle.report.proofs.Fronts.{front-inside}
 
 -- ---- refused
 
@@ -103,3 +104,14 @@ pub bad-lined : (s : State) (pixels cells text : List ℕ) (n : ℕ) → first (
 unfolding next lined rowLined either stateOf
 bad-lined s pixels cells text n e h =
     ap (λ x. rowLined x text) (sym (advance-bad s pixels (replicate (fullWidth (recipe (s .filter)) (s .width)) 0) cells (bad-refused (stateOf s) n e h)))
+
+-- the line lies within the text
+pub line-inside : (s : State) (pixels cells text : List ℕ) → next s pixels cells text .length ≤ length (next s pixels cells text .text)
+unfolding next rowLined either
+line-inside s pixels cells text =
+    let a = advance s pixels (replicate (fullWidth (recipe (s .filter)) (s .width)) 0) cells in
+    go (a .number) (line (a .out))
+  where
+    go : (n : ℕ) (t : List ℕ) → either n (length t) 0 ≤ length (either n (front t text) text)
+    go zero t = front-inside t text
+    go (suc n) t = omega arith
