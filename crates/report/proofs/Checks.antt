@@ -24,6 +24,7 @@ use Rattle.stream.specs.Calls.{Began, began, zeros, started, start}
 use Rattle.job.specs.declared.reading.Job.{Job}
 use Rattle.job.specs.Answers.{heldFilter, noJob, jobTold, jobRead}
 use Rattle.job.proofs.Holding.{held-recipe}
+use Rattle.job.proofs.Answering.{job-length}
 use Rattle.report.specs.declared.opening.Opened.{Opened}
 use Rattle.report.specs.Opening.{opening, notOpened, opened, jobOpened}
 
@@ -221,3 +222,13 @@ module _ (bytes : List ℕ) where
               cells = ap (λ (x : Began). x .cells) begun-so i;
             })
             ∙ sym (lent-accepted (programChecks bytes) (opened bytes cells) _ (begun-number ∙ q))
+
+-- the pixels begin within the file
+pub offset-inside : (bytes cells : List ℕ) → jobOpened bytes cells .opened .offset ≤ length bytes
+unfolding jobOpened lent either opened jobOffset
+offset-inside bytes cells = go (first (programChecks bytes)) refl
+  where
+    go : (n : ℕ) → first (programChecks bytes) ≡ n → either n (opened bytes cells) (record { opened = notOpened n; cells = cells }) .opened .offset ≤ length bytes
+    go zero e =
+        omega (arith, is-fine bytes (program-job bytes e) .total, job-length bytes (jobWidth bytes) (jobHeight bytes))
+    go (suc n) e = omega arith

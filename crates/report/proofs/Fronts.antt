@@ -5,7 +5,7 @@ use mathlib.Core.List.{List, [], _∷_, _++_, append-assoc}
 use Prim.Native.Nat.{ℕ, zero, suc, _+_, _-_, _*_, _≤_}
 use native.Mathlib.Nat.{sub-zero}
 use native.Mathlib.Omega.{arith}
-use lib.ListN.{length, take, drop, replicate, take-append-drop, length-replicate, replicate-append-replicate}
+use lib.ListN.{length, take, drop, replicate, take-append-drop, length-append, length-replicate, replicate-append-replicate}
 use lib.Seq.{take-append-seam, take-at, drop-append-le, length-take-le}
 use Rattle.spec.specs.Program.{line, refusalPrinted}
 use Rattle.spec.specs.Refusals.{Answer, accepted, refused, first, either}
@@ -18,6 +18,11 @@ use Rattle.report.specs.Opening.{firstLine, front}
 pub take-front : (t text : List ℕ) → take (length t) (front t text) ≡ t
 unfolding front
 take-front t text = take-append-seam t (drop (length t) text)
+
+-- a text with a line at its front is as long as the line, or longer
+pub front-inside : (t text : List ℕ) → length t ≤ length (front t text)
+unfolding front
+front-inside t text = omega (arith, length-append t (drop (length t) text))
 
 -- a front of a text was lent, and a line written at its front
 pub front-part : (t text : List ℕ) (room : ℕ) → length t ≤ room → room ≤ length text

@@ -1,6 +1,6 @@
 -- The call `advance` where it is refused, and the line of the row that it leaves.
 -- Assumes nothing.
-use mathlib.Core.Path.{_≡_, refl, sym, ap, _∙_}
+use mathlib.Core.Path.{_≡_, refl, sym, ap, subst, _∙_}
 use mathlib.Core.Bool.{true, cond}
 use mathlib.Core.List.{List, []}
 use Prim.Native.Nat.{ℕ, zero, suc, _≤_, _<_}
@@ -20,7 +20,9 @@ use Rattle.stream.specs.Calls.{stateOf, Called, called, steps, answers, push, d
 use Rattle.stream.proofs.States.{bad-refused, first-holds}
 use Rattle.rows.specs.Advance.{rowAt, advance}
 use Rattle.report.specs.Opening.{front}
-use Rattle.report.specs.Lining.{lined, rowLined, next}
+use Rattle.report.specs.declared.lining.Lined.{Lined}
+use Rattle.report.specs.Lining.{Lining, lined, rowLined, next}
+use Rattle.report.proofs.Fronts.{front-inside}
 
 -- ---- refused
 
@@ -103,3 +105,19 @@ pub bad-lined : (s : State) (pixels cells text : List ℕ) (n : ℕ) → first (
 unfolding next lined rowLined either stateOf
 bad-lined s pixels cells text n e h =
     ap (λ x. rowLined x text) (sym (advance-bad s pixels (replicate (fullWidth (recipe (s .filter)) (s .width)) 0) cells (bad-refused (stateOf s) n e h)))
+
+-- the line lies within the text
+line-inside : (s : State) (pixels cells text : List ℕ) → next s pixels cells text .length ≤ length (next s pixels cells text .text)
+unfolding next rowLined either
+line-inside s pixels cells text =
+    let a = advance s pixels (replicate (fullWidth (recipe (s .filter)) (s .width)) 0) cells in
+    go (a .number) (line (a .out))
+  where
+    go : (n : ℕ) (t : List ℕ) → either n (length t) 0 ≤ length (either n (front t text) text)
+    go zero t = front-inside t text
+    go (suc n) t = omega arith
+
+pub lined-inside : (s : State) (pixels cells text : List ℕ) (a : Lined) (held new : List ℕ) → lined a held new ≡ next s pixels cells text → a .length ≤ length new
+unfolding lined
+lined-inside s pixels cells text a held new e =
+    subst (λ (x : Lining). x .length ≤ length (x .text)) (sym e) (line-inside s pixels cells text)
