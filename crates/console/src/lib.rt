@@ -4,6 +4,7 @@ ghost use mathlib.Core.Path.{_≡_};
 ghost use Prim.Native.Nat.{_≤_};
 ghost use lib.ListN.{length, take};
 ghost use Rattle.console.specs.Buffer.{Appended};
+use bytes::copy;
 use libc::STDOUT_FILENO;
 use report::State;
 use report::head;
@@ -29,16 +30,6 @@ fn flush(buffer: &[u8], count: usize) -> bool
 {
     let z: usize = 0;
     io::write_all(STDOUT_FILENO, &buffer[z..count])
-}
-
-// A piece into a slice of its length.
-fn copy(piece: &[u8], out: &mut [u8])
-    requires { ⌜ length (now piece) ≡ length (now out) ⌝ }
-    ensures { λ r. ⌜ now (out .exit) ≡ now (piece .entry) ⌝ }
-{
-    for k in 0..piece.len() {
-        out[k] = piece[k];
-    }
 }
 
 // Puts the first bytes of a text behind what waits, as many as `taken` says. Where they have no room,

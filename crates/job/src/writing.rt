@@ -9,6 +9,7 @@ ghost use Rattle.spec.specs.Refusals.{first, answer, sizeChecks, pictureChecks}
 ghost use Rattle.job.specs.Answers.{sizeTold};
 ghost use Rattle.job.specs.Written.{Written};
 ghost use Rattle.job.specs.Private.{Appended};
+use bytes::copy;
 use filter::FullSize;
 use filter::full_size;
 use spec::Cascade;
@@ -36,15 +37,6 @@ pub fn size(filter: Filter, width: usize, height: usize) -> FileSize
         FullSize::Sides { .. } => FileSize::Bytes(
             11 + wide(filter.rows.count) + wide(filter.columns.count) + width * height,
         ),
-    }
-}
-
-fn copy(from: &[u8], to: &mut [u8])
-    requires { ⌜ length (now from) ≡ length (now to) ⌝ }
-    ensures { λ r. ⌜ now (to .exit) ≡ now (from .entry) ⌝ }
-{
-    for k in 0..from.len() {
-        to[k] = from[k];
     }
 }
 

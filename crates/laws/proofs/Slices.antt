@@ -203,6 +203,11 @@ pub front-lent : {A : Type 0} (lent front : ℕ) → lent ≡ front → (ys old 
 front-lent lent front q ys old e =
     ap₂ _++_ (sym (take-at ys (drop (lent - 0) old) front (e ∙ q))) (ap (λ n. drop n old) (sub-zero lent ∙ q))
 
+-- all of a list was copied over the front of another of its length
+pub copied-whole : {A : Type 0} (xs old : List A) → length xs ≡ length old → take (length xs) xs ++ drop (length xs) old ≡ xs
+copied-whole xs old e =
+    ap₂ _++_ (take-all (length xs) xs (le-refl (length xs))) (drop-of-length-le old {i = length xs} (omega arith)) ∙ append-nil xs
+
 -- A slice of which a part in the middle, from a on, is rewritten as ys.
 module _ {A : Type 0} (a : ℕ) (ys old : List A) (h : a + length ys ≤ length old) where
   unfoldable pub patched : List A

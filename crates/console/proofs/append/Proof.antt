@@ -2,10 +2,13 @@
 -- Assumes nothing.
 use mathlib.Core.Path.{_≡_, sym, _∙_}
 use mathlib.Core.Logic.{⊎-elim}
-use Prim.Native.Nat.{_+_, _≤_}
+use Prim.Native.Nat.{_+_, _-_, _≤_}
+use native.Mathlib.Nat.{sub-zero}
 use native.Mathlib.Omega.{arith}
 use borrow.Author.Needs.{needs}
-use lib.ListN.{length}
+use lib.ListN.{length, take, drop}
+use lib.Seq.{length-take-le}
+use Rattle.laws.proofs.Slices.{copied-whole, length-lent}
 use Rattle.console.specs.Buffer.{place}
 use Rattle.console.proofs.Appending.{at-front, behind, appended}
 use Rattle.console.proofs.append.Statement.{statement}
@@ -58,7 +61,14 @@ returns c =
     let joined = c .before .before .before .before .before .before in
     let start = joined .before .before .before in
     let goes = placed joined in
-    appended (start .args .text .now) (start .args .buffer .now) (start .args .taken) (start .args .count) (joined .if1 .from) _ (start .pre .0) (goes .0) (goes .1) (c .before .before .copy .ensures)
+    let text = start .args .text .now in
+    let buffer = start .args .buffer .now in
+    let taken = start .args .taken in
+    let from = joined .if1 .from in
+    let few : taken - 0 ≤ length text = omega (arith, start .pre .0) in
+    let sizes = length-take-le (taken - 0) text few ∙ sub-zero taken ∙ sym (length-lent from taken buffer (goes .1)) in
+    let all = c .before .before .copy .ensures .1 ∙ copied-whole (take (taken - 0) text) (take (from + taken - from) (drop from buffer)) sizes in
+    appended text buffer taken (start .args .count) from _ (start .pre .0) (goes .0) (goes .1) all
 
 pub append-spec : {M : Type 1} → statement M
 append-spec =

@@ -1,12 +1,13 @@
--- `job::writing::append` meets its contract: a part of the output is lent to `copy`.
+-- `job::writing::append` meets its contract: a part of the output is lent to `bytes::copy`.
 -- Assumes nothing.
-use mathlib.Core.Path.{_≡_, refl, ap₂, ap, _∙_}
+use mathlib.Core.Path.{_≡_, refl, sym, ap₂, ap, _∙_}
 use mathlib.Core.List.{_++_}
 use Prim.Native.Nat.{_+_, _-_}
 use native.Mathlib.Omega.{arith}
 use borrow.Author.Needs.{needs}
 use lib.ListN.{length, take, drop}
 use lib.Seq.{drop-drop}
+use Rattle.laws.proofs.Slices.{copied-whole, length-lent}
 use Rattle.job.proofs.writing.append.Statement.{statement}
 use Rattle.job.proofs.writing.append.Tie as tie
 
@@ -35,7 +36,8 @@ returns c =
     let n = length (a .from .now) in
     let end : a .at + (a .at + n - a .at) ≡ a .at + n = omega arith in
     let rest = drop-drop (a .at + n - a .at) (a .at) old ∙ ap (λ k. drop k old) end in
-    record { place = refl; is = ap₂ (λ ys zs. take (a .at) old ++ (ys ++ zs)) (c .before .before .copy .ensures) rest }
+    let all = c .before .before .copy .ensures .1 ∙ copied-whole (a .from .now) (take (a .at + n - a .at) (drop (a .at) old)) (sym (length-lent (a .at) n old (c .before .before .before .before .before .before .pre))) in
+    record { place = refl; is = ap₂ (λ ys zs. take (a .at) old ++ (ys ++ zs)) all rest }
 
 pub append-spec : {M : Type 1} → statement M
 append-spec =
