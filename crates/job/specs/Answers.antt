@@ -4,7 +4,7 @@ use Prim.Native.Nat.{ℕ, _-_}
 use lib.ListN.{length, replicate}
 use Rattle.spec.specs.declared.Cascade.{Cascade}
 use Rattle.spec.specs.declared.Filter.{Filter}
-use Rattle.spec.specs.Recipe.{Recipe}
+use Rattle.spec.specs.Recipe.{Recipe, noWidths}
 use Rattle.spec.specs.Job.{jobRecipe, jobWidth, jobHeight, jobOffset}
 use Rattle.spec.specs.Refusals.{Answer, accepted, refused, first, lent, jobChecks}
 use Rattle.job.specs.declared.reading.Job.{Job}
@@ -19,9 +19,6 @@ unfoldable pub heldFilter : Recipe → Filter
 heldFilter r = record { rows = held (r .rows); columns = held (r .columns) }
 
 -- a refused job: its number, and all else zero
-abbrev pub noWidths : Cascade
-noWidths = record { count = 0; widths = replicate 48 0 }
-
 abbrev pub noJob : ℕ → Job
 noJob n = record { refusal = n; filter = record { rows = noWidths; columns = noWidths }; width = 0; height = 0; offset = 0 }
 

@@ -19,6 +19,10 @@ widths c = part 0 (c .count) (c .widths)
 unfoldable pub recipe : Filter → Recipe
 recipe f = record { rows = widths (f .rows); columns = widths (f .columns) }
 
+-- a cascade of zeros, as it stands beside the number of a refusal
+abbrev pub noWidths : Cascade
+noWidths = record { count = 0; widths = replicate 48 0 }
+
 -- Box of width n: n coefficients 1, at 0 to n - 1.
 unfoldable pub box : ℕ → List ℕ
 box n = replicate n 1

@@ -2,9 +2,8 @@
 use mathlib.Core.List.{List, [], _++_}
 use Prim.Native.Nat.{ℕ, _+_}
 use lib.ListN.{length, drop, replicate}
-use Rattle.spec.specs.declared.Cascade.{Cascade}
 use Rattle.spec.specs.declared.Filter.{Filter}
-use Rattle.spec.specs.Recipe.{recipe}
+use Rattle.spec.specs.Recipe.{recipe, noWidths}
 use Rattle.spec.specs.Stream.{State as SpecState, streamCells, rowCost}
 use Rattle.spec.specs.Refusals.{Check, first, lent, startChecks, rowChecks, drainChecks}
 use Rattle.stream.specs.declared.calls.State.{State}
@@ -28,9 +27,6 @@ unfoldable pub began : Started → List ℕ → Began
 began a cells = record { number = a .refusal; state = a .state; cells = cells }
 
 -- a state of zeros
-abbrev pub noWidths : Cascade
-noWidths = record { count = 0; widths = replicate 48 0 }
-
 abbrev pub zeros : State
 zeros = record { filter = record { rows = noWidths; columns = noWidths }; width = 0; height = 0; emitted = 0 }
 

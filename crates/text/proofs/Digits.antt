@@ -2,8 +2,8 @@
 -- Assumes nothing.
 use mathlib.Core.Path.{_≡_, refl, sym, ap, ap₂, _∙_}
 use mathlib.Core.List.{List, [], _∷_, _++_}
-use Prim.Native.Nat.{ℕ, zero, suc, _+_, _/_, _%_, _^_, _≤_, _<_}
-use native.Mathlib.Nat.{not-suc-le-zero, le-of-suc-le-suc, zero-lt-suc, le-refl, one-le-pow, pow-suc, pow-le-pow-right}
+use Prim.Native.Nat.{ℕ, zero, suc, _+_, _*_, _/_, _%_, _^_, _≤_, _<_}
+use native.Mathlib.Nat.{mul-assoc, mod-eq-of-lt, div-add-mod, mul-add-div, mul-add-mod-self-left, div-div-eq-div-mul, not-suc-le-zero, le-of-suc-le-suc, zero-lt-suc, le-refl, one-le-pow, pow-suc, pow-le-pow-right}
 use native.Mathlib.Omega.{arith}
 use native.Mathlib.Decide.{decLt}
 use lib.ListN.{length, drop, set, length-append, length-set}
@@ -98,3 +98,25 @@ places-more k n l h =
     (sym
     (drop-cons (set l k (48 + n % 10)) k 0 (omega (arith, length-set l k (48 + n % 10)))
     ∙ ap₂ _∷_ (getD-set-same l k (48 + n % 10) 0 h) (drop-set-lt (suc k) l k (48 + n % 10) (omega arith))))
+
+-- the last two digits of a number, and what is left of it without them
+module _ (n : ℕ) where
+  last-digit : n % 10 ≡ n % 100 % 10
+  last-digit = sym (ap (λ m. m % 10) (div-add-mod n 100)) ∙ ap (λ m. (m + n % 100) % 10) (mul-assoc 10 10 (n / 100)) ∙ mul-add-mod-self-left 10 (10 * (n / 100)) (n % 100)
+
+  without-last : n / 10 ≡ 10 * (n / 100) + n % 100 / 10
+  without-last = sym (ap (λ m. m / 10) (div-add-mod n 100)) ∙ ap (λ m. (m + n % 100) / 10) (mul-assoc 10 10 (n / 100)) ∙ mul-add-div (omega arith) (10 * (n / 100)) (n % 100)
+
+  next-digit : n / 10 % 10 ≡ n % 100 / 10
+  next-digit = ap (λ m. m % 10) without-last ∙ mul-add-mod-self-left 10 (n / 100) (n % 100 / 10) ∙ mod-eq-of-lt (omega arith)
+
+-- two digits more
+pub places-pair : (k n : ℕ) (l : List ℕ) → suc k < length l
+    → places (suc (suc k)) n ++ drop (suc (suc k)) l
+    ≡ places k (n / 100) ++ drop k (set (set l (suc k) (48 + n % 100 % 10)) k (48 + n % 100 / 10))
+places-pair k n l h =
+    let low = 48 + n % 10 in
+    let inside : k < length (set l (suc k) low) = omega (arith, length-set l (suc k) low) in
+    places-more (suc k) n l h
+    ∙ places-more k (n / 10) (set l (suc k) low) inside
+    ∙ (λ i. places k (div-div-eq-div-mul n 10 10 i) ++ drop k (set (set l (suc k) (48 + last-digit n i)) k (48 + next-digit n i)))

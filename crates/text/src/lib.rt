@@ -24,17 +24,22 @@ fn digit_count(n: u64) -> usize
     count
 }
 
-// A number's digits into a slice of just as many bytes, from the last to the first.
+// A number's digits into a slice of just as many bytes, two at a time from the last to the first.
 fn spell(n: u64, out: &mut [u8])
     requires { ⌜ length (now out) ≡ length (decimal n) ⌝ }
     ensures { λ r. ⌜ now (out .exit) ≡ decimal n ⌝ }
 {
     let mut rest = n;
     let mut k = out.len();
-    while 0 < k {
-        k -= 1;
-        out[k] = 48 + (rest % 10) as u8;
-        rest = rest / 10;
+    while 1 < k {
+        k -= 2;
+        let pair = rest % 100;
+        out[k + 1] = 48 + (pair % 10) as u8;
+        out[k] = 48 + (pair / 10) as u8;
+        rest = rest / 100;
+    }
+    if 0 < k {
+        out[0] = 48 + (rest % 10) as u8;
     }
 }
 
