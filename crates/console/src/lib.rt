@@ -1,6 +1,5 @@
 // What boresums prints for a job, on standard output. It goes through a buffer, so that a narrow
 // picture does not cost a system call for each line.
-ghost use mathlib.Core.Path.{_≡_};
 ghost use Prim.Native.Nat.{_≤_};
 ghost use lib.ListN.{length, take};
 ghost use Rattle.console.specs.Buffer.{Appended};

@@ -2,7 +2,7 @@
 -- Assumes nothing.
 use mathlib.Core.Path.{_≡_, refl, sym, ap, ap₂, _∙_}
 use mathlib.Core.Bool.{true, false, not, cond, _||_}
-use mathlib.Core.List.{List, [], _∷_, _++_}
+use mathlib.Core.List.{List, [], _∷_}
 use Prim.Native.Nat.{ℕ, _+_, _*_, _≤_, _<_}
 use native.Mathlib.Nat.{mul-le-mul}
 use native.Mathlib.Omega.{arith}
@@ -10,19 +10,17 @@ use lib.Dec.{ltb, eqb}
 use lib.ListN.{length, getD}
 use borrow.Author.Tests.{lt-ltb, le-ltb, ltb-false}
 use Rattle.spec.specs.declared.Filter.{Filter}
-use Rattle.spec.specs.Words.{part}
 use Rattle.spec.specs.Recipe.{Recipe, recipe}
 use Rattle.spec.specs.Picture.{Picture}
-use Rattle.spec.specs.Job.{version, read16, jobRecipe, jobWidth, jobHeight, jobOffset, jobBytes, jobLength}
-use Rattle.spec.specs.Refusals.{Check, check, first, either, lent, tooLong, badHead, cutShort, otherTotal, otherOutput, otherPixels, sizeChecks, pictureChecks, jobChecks, writeChecks}
+use Rattle.spec.specs.Job.{version, read16, jobRecipe, jobWidth, jobHeight, jobBytes, jobLength}
+use Rattle.spec.specs.Refusals.{check, first, either, lent, tooLong, badHead, cutShort, otherTotal, otherOutput, otherPixels, sizeChecks, jobChecks, writeChecks}
 use Rattle.laws.proofs.Lists.{length-part}
 use Rattle.laws.proofs.Refusals.{Sized, lent-refused, lent-accepted, first-front, first-then, size-numbered, picture-sides, picture-pixels, picture-rest, by-output, after-output, as-stated, not-stated}
 use Rattle.laws.proofs.Numbers.{neither}
 use Rattle.filter.proofs.Widths.{length-widths}
-use Rattle.job.specs.declared.reading.Job.{Job}
-use Rattle.job.specs.Answers.{heldFilter, noJob, jobTold, jobRead}
+use Rattle.job.specs.Answers.{noJob, jobTold, jobRead}
 use Rattle.job.specs.Written.{Written}
-use Rattle.job.specs.Private.{Whole, restChecks, restRead}
+use Rattle.job.specs.Private.{restChecks, restRead}
 
 -- how many pixels there can be
 pub area : (w h : ℕ) → Sized w h → w * h ≤ 1024 * 1024

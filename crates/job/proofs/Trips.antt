@@ -1,25 +1,25 @@
 -- Demand 2 on job files: a job read back after writing is the same job, and an accepted file written again has the same bytes.
 -- Assumes nothing.
 use mathlib.Core.Path.{_≡_, refl, sym, ap, ap₂, subst, _∙_}
-use mathlib.Core.Bool.{Bool, true, false, not, cond, _||_, _&&_}
+use mathlib.Core.Bool.{false, not, _||_}
 use mathlib.Core.List.{List, [], _∷_, _++_}
-use Prim.Native.Nat.{ℕ, zero, suc, _+_, _-_, _*_, _/_, _%_, _≤_, _<_}
+use Prim.Native.Nat.{ℕ, zero, suc, _+_, _-_, _*_, _/_, _%_, _≤_}
 use native.Mathlib.Nat.{mod-eq-of-lt, add-mul-mod-self-left, add-mul-div-left}
 use native.Mathlib.Omega.{arith}
 use lib.Dec.{ltb, eqb}
 use lib.ListN.{length, getD, take, drop, length-append, length-drop, take-append-drop}
 use lib.Seq.{take-at, drop-at, drop-drop, drop-append-add, getD-drop}
-use borrow.Author.Tests.{le-ltb, ltb-false, eqb-true, not-false}
+use borrow.Author.Tests.{le-ltb, eqb-true, not-false}
 use Rattle.spec.specs.Words.{tab, part}
 use Rattle.spec.specs.Recipe.{Recipe, recipe}
 use Rattle.spec.specs.Picture.{Picture, picture}
 use Rattle.spec.specs.Job.{mark, version, low16, read16, jobBytes, jobLength, jobRecipe, jobWidth, jobHeight, jobOffset, jobPicture}
-use Rattle.spec.specs.Refusals.{Check, check, first, either, lent, badHead, cutShort, otherTotal, otherOutput, otherPixels, tooLong, sizeChecks, pictureChecks, jobChecks, writeChecks}
+use Rattle.spec.specs.Refusals.{first, either, lent, badHead, cutShort, otherTotal, otherPixels, tooLong, sizeChecks, pictureChecks, jobChecks, writeChecks}
 use Rattle.laws.proofs.Lists.{length-part, part-within}
 use Rattle.laws.proofs.Numbers.{neither, both}
 use Rattle.laws.proofs.Refusals.{Sized, lent-accepted, none-both, first-none, size-numbered, picture-numbered, is-sized, is-accepted-picture, first-rest, after-output, picture-passed, same-length-so}
 use Rattle.job.specs.declared.reading.Job.{Job}
-use Rattle.job.specs.Answers.{heldFilter, noJob, jobTold, jobRead}
+use Rattle.job.specs.Answers.{noJob, jobTold, jobRead}
 use Rattle.job.specs.Written.{Written}
 use Rattle.job.specs.RoundTrip.{Same, readPicture, Bytes, ReadBack, WrittenAgain}
 use Rattle.job.proofs.Holding.{held-recipe}

@@ -5,52 +5,38 @@ use lib.Dec.{eqb}
 use borrow.Author.Tests.{lt-ltb, le-ltb, eq-eqb, ne-eqb}
 use Rattle.spec.specs.Job.{mark, version}
 use Rattle.spec.specs.Refusals.{badHead}
-use mathlib.Core.Path.{_≡_, refl, sym, ap, ap₂, _∙_}
-use mathlib.Core.List.{List, [], _∷_, _++_}
-use Prim.Native.Nat.{ℕ, suc, _+_, _-_, _*_, _/_, _%_, _^_, _≤_, _<_}
-use native.Mathlib.Omega.{arith}
+use mathlib.Core.Path.{ap}
+use Prim.Native.Nat.{_-_}
 use borrow.Author.Needs.{needs}
-use lib.ListN.{length, getD, take, drop, set, length-set}
 use Rattle.job.proofs.reading.bad_head.Statement.{statement}
 use Rattle.job.proofs.reading.bad_head.Tie as tie
-use Rattle.job.proofs.reading.bad_head.Reads as reads
-use Rattle.job.proofs.reading.bad_head.Lts as lts
-use Rattle.job.proofs.reading.read16.Reads as read16-reads
 
--- src/reading.rt:65:15
 shared-slice-read-if2 : tie.Need-shared-slice-read-if2
 shared-slice-read-if2 c = search needs
 
--- src/reading.rt:67:15
 shared-slice-read-if3 : tie.Need-shared-slice-read-if3
 shared-slice-read-if3 c = search needs
 
--- src/reading.rt:69:15
 shared-slice-read-if4 : tie.Need-shared-slice-read-if4
 shared-slice-read-if4 c = search needs
 
--- src/reading.rt:72:9
 read16-requires : tie.Need-read16-requires
 read16-requires c κs = search needs
 
--- src/reading.rt:60:1
 returns : tie.Need-returns
 unfolding badHead
 returns c = simp (lt-ltb _ _ (c .if1 .taken))
 
--- src/reading.rt:60:1
 returns-2 : tie.Need-returns-2
 unfolding badHead mark
 returns-2 c = simp (le-ltb _ _ (c .before .before .if1 .left), ne-eqb _ _ (c .if2 .taken))
 
--- src/reading.rt:60:1
 returns-3 : tie.Need-returns-3
 unfolding badHead mark
 returns-3 c =
     let past = c .before .before in
     simp (le-ltb _ _ (past .before .before .if1 .left), eq-eqb _ _ (past .if2 .left), ne-eqb _ _ (c .if3 .taken))
 
--- src/reading.rt:60:1
 returns-4 : tie.Need-returns-4
 unfolding badHead mark
 returns-4 c =
@@ -62,7 +48,6 @@ returns-4 c =
       ne-eqb _ _ (c .if4 .taken),
     )
 
--- src/reading.rt:60:1
 returns-5 : tie.Need-returns-5
 unfolding badHead mark version
 returns-5 c =

@@ -6,17 +6,13 @@ use mathlib.Core.Bool.{true, cond}
 use lib.Dec.{ltb}
 use borrow.Author.Tests.{lt-ltb}
 use Rattle.job.proofs.Holding.{entered, held-so}
-use mathlib.Core.Path.{_≡_, refl, sym, ap, ap₂, _∙_}
-use mathlib.Core.List.{List, [], _∷_, _++_}
-use Prim.Native.Nat.{ℕ, suc, _+_, _-_, _*_, _/_, _%_, _^_, _≤_, _<_}
+use mathlib.Core.Path.{_≡_, refl, sym, ap}
+use Prim.Native.Nat.{_+_, _-_, _≤_, _<_}
 use native.Mathlib.Omega.{arith}
 use borrow.Author.Needs.{needs}
-use lib.ListN.{length, getD, take, drop, set, length-set}
+use lib.ListN.{length, getD, length-set}
 use Rattle.job.proofs.reading.cascade_at.Statement.{statement}
 use Rattle.job.proofs.reading.cascade_at.Tie as tie
-use Rattle.job.proofs.reading.cascade_at.Reads as reads
-use Rattle.job.proofs.reading.cascade_at.Lts as lts
-use Rattle.job.proofs.reading.wide.Reads as wide-reads
 
 abbrev Inv-loop : tie.InvT-loop
 Inv-loop bytes at count widths₀ k₀ k-end widths k = (k-end ≡ count) × (length widths ≡ 48) × (k ≤ k-end) × Rightwards (entered bytes at count) (replicate 48 0) k widths
@@ -24,37 +20,29 @@ Inv-loop bytes at count widths₀ k₀ k-end widths k = (k-end ≡ count) × (le
 abbrev μ-loop : tie.MeasureT-loop
 μ-loop bytes at count widths₀ k₀ k-end widths k = k-end - k
 
--- src/reading.rt:82:17
 wide-requires : tie.Need-wide-requires Inv-loop μ-loop
 wide-requires c κs = search needs
 
--- src/reading.rt:82:5
 loop-holds : tie.Need-loop-holds Inv-loop μ-loop
 loop-holds c =
     let a = c .before .before .args in
     (search needs, refl, omega arith, rightwards-none (entered (a .bytes .now) (a .at) (a .count)) (replicate 48 0))
 
--- src/reading.rt:83:27
 add-widths : tie.Need-add-widths Inv-loop μ-loop
 add-widths c = search needs
 
--- src/reading.rt:83:21
 shared-slice-read-widths : tie.Need-shared-slice-read-widths Inv-loop μ-loop
 shared-slice-read-widths c = search needs
 
--- src/reading.rt:83:9
 array-write-widths : tie.Need-array-write-widths Inv-loop μ-loop
 array-write-widths c = search needs
 
--- src/reading.rt:82:9
 add-k : tie.Need-add-k Inv-loop μ-loop
 add-k c = search needs
 
--- src/reading.rt:82:5
 loop-less : tie.Need-loop-less Inv-loop μ-loop
 loop-less c = search needs
 
--- src/reading.rt:82:5
 loop-again : tie.Need-loop-again Inv-loop μ-loop
 unfolding entered
 loop-again c =
@@ -69,7 +57,6 @@ loop-again c =
           (sym (ap (λ b. cond b (getD (a .bytes .now) (a .at + turn .k) 0) 0) here)),
     )
 
--- src/reading.rt:77:1
 returns : tie.Need-returns Inv-loop μ-loop
 returns c =
     let a = c .before .before .before .before .args in

@@ -8,7 +8,7 @@ use borrow.Author.Needs.{needs}
 use lib.ListN.{length}
 use Rattle.spec.specs.Recipe.{recipe, widths}
 use Rattle.spec.specs.Picture.{picture}
-use Rattle.laws.proofs.Refusals.{AcceptedPicture, is-accepted-picture}
+use Rattle.laws.proofs.Refusals.{is-accepted-picture}
 use Rattle.filter.proofs.Refusal.{accepted-counts}
 use Rattle.filter.proofs.Widths.{length-widths}
 use Rattle.job.proofs.Answering.{length-by-counts}

@@ -1,7 +1,6 @@
 -- `job::writing::write` meets its contract: the answer of `size`, case by case, then the lengths of the two slices.
 -- Assumes nothing.
 use mathlib.Core.Path.{_≡_, sym, ap, _∙_}
-use Prim.Native.Nat.{_*_}
 use native.Mathlib.Omega.{arith}
 use borrow.Author.Needs.{needs}
 use Rattle.spec.specs.Recipe.{recipe}
