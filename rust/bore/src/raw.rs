@@ -1,50 +1,46 @@
-//! The declarations of the static libraries' functions, and a safe form of each
-//! one that takes a pointer and a length. No other file has unsafe code.
+//! The declarations of the static libraries' functions, and a safe form of
+//! each. No other file has unsafe code.
 //!
 //! Nothing compares these declarations with the libraries' source: keep each of
-//! them equal to the exported function, argument by argument. A call of which
-//! every argument is a number or a reference is declared safe. A call with a
-//! slice is declared with a pointer and a length, and gets a function below.
+//! them equal to the exported function, argument by argument. A block of 98 or
+//! 49 bytes is declared as the struct with these bytes. A slice is a pointer and
+//! a length. A call of which every argument is a number or a reference is
+//! declared safe.
 
 #![allow(unsafe_code)]
 
-use crate::{Filter, Job, State};
+use std::mem::{align_of, offset_of, size_of};
 
+use crate::{Cascade, Filter, Job, Moments, State};
+
+// The blocks: a list is its count and its 48 widths, a recipe two lists.
+const _: () = assert!(size_of::<Cascade>() == 49 && align_of::<Cascade>() == 1);
+const _: () = assert!(offset_of!(Cascade, count) == 0 && offset_of!(Cascade, widths) == 1);
+const _: () = assert!(size_of::<Filter>() == 98 && align_of::<Filter>() == 1);
+const _: () = assert!(offset_of!(Filter, rows) == 0 && offset_of!(Filter, columns) == 49);
+
+/// The words of a state or of a job that was read: width, height, and rows
+/// yielded or the offset of the pixels.
+type Words = [usize; 3];
+
+// The library filter_c.
 unsafe extern "C" {
-    pub safe fn bore_check(
-        row_count: u8,
-        rows: &[u8; 48],
-        column_count: u8,
-        columns: &[u8; 48],
-    ) -> u8;
+    safe fn bore_check(block: &Filter) -> u8;
 
-    fn bore_kernel(count: u8, widths: &[u8; 48], out: *mut u64, out_len: usize) -> u8;
+    fn bore_kernel(list: &Cascade, out: *mut u64, out_len: usize) -> u8;
 
-    pub safe fn bore_full_size(
-        row_count: u8,
-        rows: &[u8; 48],
-        column_count: u8,
-        columns: &[u8; 48],
+    safe fn bore_full_size(
+        block: &Filter,
         width: usize,
         height: usize,
         full_width: &mut usize,
         full_height: &mut usize,
     ) -> u8;
 
-    pub safe fn bore_stream_cells(
-        row_count: u8,
-        rows: &[u8; 48],
-        column_count: u8,
-        columns: &[u8; 48],
-        width: usize,
-        cells: &mut usize,
-    ) -> u8;
+    safe fn bore_stream_cells(block: &Filter, width: usize, cells: &mut usize) -> u8;
 
-    pub safe fn bore_moments(
-        row_count: u8,
-        rows: &[u8; 48],
-        column_count: u8,
-        columns: &[u8; 48],
+    safe fn bore_moments(
+        block: &Filter,
         weight: &mut u64,
         row_order: &mut usize,
         column_order: &mut usize,
@@ -52,23 +48,13 @@ unsafe extern "C" {
         column_variance: &mut f64,
     ) -> u8;
 
-    pub safe fn bore_equivalent(
-        a_row_count: u8,
-        a_rows: &[u8; 48],
-        a_column_count: u8,
-        a_columns: &[u8; 48],
-        b_row_count: u8,
-        b_rows: &[u8; 48],
-        b_column_count: u8,
-        b_columns: &[u8; 48],
-        same: &mut u8,
-    ) -> u8;
+    safe fn bore_equivalent(a: &Filter, b: &Filter, same: &mut u8) -> u8;
+}
 
+// The library sums_c.
+unsafe extern "C" {
     fn bore_direct(
-        row_count: u8,
-        rows: &[u8; 48],
-        column_count: u8,
-        columns: &[u8; 48],
+        block: &Filter,
         width: usize,
         height: usize,
         pixels: *const u8,
@@ -82,10 +68,7 @@ unsafe extern "C" {
     ) -> u8;
 
     fn bore_passes(
-        row_count: u8,
-        rows: &[u8; 48],
-        column_count: u8,
-        columns: &[u8; 48],
+        block: &Filter,
         width: usize,
         height: usize,
         pixels: *const u8,
@@ -97,31 +80,18 @@ unsafe extern "C" {
     ) -> u8;
 
     fn bore_start(
-        row_count: u8,
-        rows: &[u8; 48],
-        column_count: u8,
-        columns: &[u8; 48],
+        block: &Filter,
         width: usize,
         height: usize,
         cells: *mut u64,
         cells_len: usize,
-        state_row_count: &mut u8,
-        state_rows: &mut [u8; 48],
-        state_column_count: &mut u8,
-        state_columns: &mut [u8; 48],
-        state_width: &mut usize,
-        state_height: &mut usize,
-        emitted: &mut usize,
+        state: &mut Filter,
+        words: &mut Words,
     ) -> u8;
 
     fn bore_push(
-        row_count: &mut u8,
-        rows: &mut [u8; 48],
-        column_count: &mut u8,
-        columns: &mut [u8; 48],
-        width: &mut usize,
-        height: &mut usize,
-        emitted: &mut usize,
+        state: &Filter,
+        words: &mut Words,
         pixels: *const u8,
         pixels_len: usize,
         out: *mut u64,
@@ -132,25 +102,20 @@ unsafe extern "C" {
     ) -> u8;
 
     fn bore_drain(
-        row_count: &mut u8,
-        rows: &mut [u8; 48],
-        column_count: &mut u8,
-        columns: &mut [u8; 48],
-        width: &mut usize,
-        height: &mut usize,
-        emitted: &mut usize,
+        state: &Filter,
+        words: &mut Words,
         out: *mut u64,
         out_len: usize,
         cells: *mut u64,
         cells_len: usize,
         count: &mut u64,
     ) -> u8;
+}
 
+// The library gray_c.
+unsafe extern "C" {
     fn bore_round(
-        row_count: u8,
-        rows: &[u8; 48],
-        column_count: u8,
-        columns: &[u8; 48],
+        block: &Filter,
         sums: *const u64,
         sums_len: usize,
         out: *mut u8,
@@ -158,10 +123,7 @@ unsafe extern "C" {
     ) -> u8;
 
     fn bore_blur(
-        row_count: u8,
-        rows: &[u8; 48],
-        column_count: u8,
-        columns: &[u8; 48],
+        block: &Filter,
         width: usize,
         height: usize,
         pixels: *const u8,
@@ -173,14 +135,8 @@ unsafe extern "C" {
     ) -> u8;
 
     fn bore_difference(
-        a_row_count: u8,
-        a_rows: &[u8; 48],
-        a_column_count: u8,
-        a_columns: &[u8; 48],
-        b_row_count: u8,
-        b_rows: &[u8; 48],
-        b_column_count: u8,
-        b_columns: &[u8; 48],
+        a: &Filter,
+        b: &Filter,
         width: usize,
         height: usize,
         pixels: *const u8,
@@ -192,10 +148,7 @@ unsafe extern "C" {
     ) -> u8;
 
     fn bore_sample_gray(
-        row_count: u8,
-        rows: &[u8; 48],
-        column_count: u8,
-        columns: &[u8; 48],
+        block: &Filter,
         width: usize,
         height: usize,
         pixels: *const u8,
@@ -206,10 +159,7 @@ unsafe extern "C" {
     ) -> u8;
 
     fn bore_sample_sum(
-        row_count: u8,
-        rows: &[u8; 48],
-        column_count: u8,
-        columns: &[u8; 48],
+        block: &Filter,
         width: usize,
         height: usize,
         pixels: *const u8,
@@ -220,10 +170,7 @@ unsafe extern "C" {
     ) -> u8;
 
     fn bore_sample_mean(
-        row_count: u8,
-        rows: &[u8; 48],
-        column_count: u8,
-        columns: &[u8; 48],
+        block: &Filter,
         width: usize,
         height: usize,
         pixels: *const u8,
@@ -232,24 +179,21 @@ unsafe extern "C" {
         row: usize,
         mean: &mut f64,
     ) -> u8;
+}
 
+// The library job_c.
+unsafe extern "C" {
     fn bore_read_job(
         bytes: *const u8,
         bytes_len: usize,
-        row_count: &mut u8,
-        rows: &mut [u8; 48],
-        column_count: &mut u8,
-        columns: &mut [u8; 48],
-        width: &mut usize,
-        height: &mut usize,
-        offset: &mut usize,
+        block: &mut Filter,
+        words: &mut Words,
     ) -> u8;
 
+    safe fn bore_job_size(block: &Filter, width: usize, height: usize, size: &mut usize) -> u8;
+
     fn bore_write_job(
-        row_count: u8,
-        rows: &[u8; 48],
-        column_count: u8,
-        columns: &[u8; 48],
+        block: &Filter,
         width: usize,
         height: usize,
         pixels: *const u8,
@@ -257,24 +201,60 @@ unsafe extern "C" {
         out: *mut u8,
         out_len: usize,
     ) -> u8;
-
-    pub safe fn bore_job_size(
-        row_count: u8,
-        rows: &[u8; 48],
-        column_count: u8,
-        columns: &[u8; 48],
-        width: usize,
-        height: usize,
-        size: &mut usize,
-    ) -> u8;
 }
 
-pub fn kernel(count: u8, widths: &[u8; 48], out: &mut [u64]) -> u8 {
+/// Whether a filter is accepted; refusals 1 to 4.
+pub fn check(filter: &Filter) -> u8 {
+    bore_check(filter)
+}
+
+/// The coefficients of one cascade, into an output of exactly its order + 1;
+/// refusals 1 to 4 of the cascade as a filter of its own, then 7.
+pub fn kernel(cascade: &Cascade, out: &mut [u64]) -> u8 {
     // SAFETY: the pointer and the length are those of one slice, which is lent
     // to this call alone.
-    unsafe { bore_kernel(count, widths, out.as_mut_ptr(), out.len()) }
+    unsafe { bore_kernel(cascade, out.as_mut_ptr(), out.len()) }
 }
 
+/// The sides of the full convolution (document 01: the grown picture);
+/// refusals 1 to 5.
+pub fn full_size(
+    filter: &Filter,
+    width: usize,
+    height: usize,
+    full_width: &mut usize,
+    full_height: &mut usize,
+) -> u8 {
+    bore_full_size(filter, width, height, full_width, full_height)
+}
+
+/// The work cells that the stream (document 01: the one pass) needs for a
+/// picture of this width; refusals 1 to 5, 5 for the width alone.
+pub fn stream_cells(filter: &Filter, width: usize, cells: &mut usize) -> u8 {
+    bore_stream_cells(filter, width, cells)
+}
+
+/// The moments of a filter; refusals 1 to 4.
+pub fn moments(filter: &Filter, moments: &mut Moments) -> u8 {
+    bore_moments(
+        filter,
+        &mut moments.gain,
+        &mut moments.row_order,
+        &mut moments.column_order,
+        &mut moments.row_variance,
+        &mut moments.column_variance,
+    )
+}
+
+/// Whether two filters are equal (document 01: the comparing call): `same`
+/// becomes 1 where they are, else 0; refusals 1 to 4 of `a`, then those of `b`.
+pub fn equivalent(a: &Filter, b: &Filter, same: &mut u8) -> u8 {
+    bore_equivalent(a, b, same)
+}
+
+/// Every exact sum as it is defined (document 01: direct), with the
+/// coefficients in two slices of exactly each order + 1 and the sums in an
+/// output of exactly the grown size; refusals 1 to 7.
 pub fn direct(
     filter: &Filter,
     width: usize,
@@ -288,10 +268,7 @@ pub fn direct(
     // three that are written are lent to this call alone.
     unsafe {
         bore_direct(
-            filter.rows.count,
-            &filter.rows.widths,
-            filter.columns.count,
-            &filter.columns.widths,
+            filter,
             width,
             height,
             pixels.as_ptr(),
@@ -306,6 +283,9 @@ pub fn direct(
     }
 }
 
+/// The exact sums by one running sum after another over the whole grown
+/// picture (document 01: pass by pass), in an output of exactly the grown size
+/// and with at least as many work cells; refusals 1 to 8.
 pub fn passes(
     filter: &Filter,
     width: usize,
@@ -318,10 +298,7 @@ pub fn passes(
     // two that are written are lent to this call alone.
     unsafe {
         bore_passes(
-            filter.rows.count,
-            &filter.rows.widths,
-            filter.columns.count,
-            &filter.columns.widths,
+            filter,
             width,
             height,
             pixels.as_ptr(),
@@ -334,6 +311,9 @@ pub fn passes(
     }
 }
 
+/// Starts the stream for a filter and a picture of these sides: sets the needed
+/// cells to zero. Whatever `state` holds, it becomes the started state, or after
+/// a refusal a state of zeros; refusals 1 to 5, then 8.
 pub fn start(
     filter: &Filter,
     width: usize,
@@ -341,29 +321,27 @@ pub fn start(
     cells: &mut [u64],
     state: &mut State,
 ) -> u8 {
+    let mut words = words_of(state);
     // SAFETY: the pointer and the length are those of one slice, which is lent
     // to this call alone.
-    unsafe {
+    let number = unsafe {
         bore_start(
-            filter.rows.count,
-            &filter.rows.widths,
-            filter.columns.count,
-            &filter.columns.widths,
+            filter,
             width,
             height,
             cells.as_mut_ptr(),
             cells.len(),
-            &mut state.filter.rows.count,
-            &mut state.filter.rows.widths,
-            &mut state.filter.columns.count,
-            &mut state.filter.columns.widths,
-            &mut state.width,
-            &mut state.height,
-            &mut state.emitted,
+            &mut state.filter,
+            &mut words,
         )
-    }
+    };
+    set_words(state, words);
+    number
 }
 
+/// Gives the stream the next picture row and takes one grown row from it.
+/// `count` becomes the count of additions and subtractions; refusals 9, 10,
+/// then 6, 7, 8.
 pub fn push(
     state: &mut State,
     pixels: &[u8],
@@ -371,17 +349,13 @@ pub fn push(
     cells: &mut [u64],
     count: &mut u64,
 ) -> u8 {
+    let mut words = words_of(state);
     // SAFETY: each pointer and the length after it are those of one slice; the
     // two that are written are lent to this call alone.
-    unsafe {
+    let number = unsafe {
         bore_push(
-            &mut state.filter.rows.count,
-            &mut state.filter.rows.widths,
-            &mut state.filter.columns.count,
-            &mut state.filter.columns.widths,
-            &mut state.width,
-            &mut state.height,
-            &mut state.emitted,
+            &state.filter,
+            &mut words,
             pixels.as_ptr(),
             pixels.len(),
             out.as_mut_ptr(),
@@ -390,39 +364,48 @@ pub fn push(
             cells.len(),
             count,
         )
-    }
+    };
+    set_words(state, words);
+    number
 }
 
+/// Takes one grown row from the stream when all picture rows are in. `count`
+/// becomes the count of additions and subtractions; refusals 9, 10, then 7, 8.
 pub fn drain(state: &mut State, out: &mut [u64], cells: &mut [u64], count: &mut u64) -> u8 {
+    let mut words = words_of(state);
     // SAFETY: each pointer and the length after it are those of one slice; both
     // are lent to this call alone.
-    unsafe {
+    let number = unsafe {
         bore_drain(
-            &mut state.filter.rows.count,
-            &mut state.filter.rows.widths,
-            &mut state.filter.columns.count,
-            &mut state.filter.columns.widths,
-            &mut state.width,
-            &mut state.height,
-            &mut state.emitted,
+            &state.filter,
+            &mut words,
             out.as_mut_ptr(),
             out.len(),
             cells.as_mut_ptr(),
             cells.len(),
             count,
         )
-    }
+    };
+    set_words(state, words);
+    number
 }
 
+fn words_of(state: &State) -> Words {
+    [state.width, state.height, state.emitted]
+}
+
+fn set_words(state: &mut State, words: Words) {
+    [state.width, state.height, state.emitted] = words;
+}
+
+/// The greys of a row of sums (document 01: rounding), in an output of the same
+/// length; refusals 1 to 4, then 7, 11.
 pub fn round(filter: &Filter, sums: &[u64], out: &mut [u8]) -> u8 {
     // SAFETY: each pointer and the length after it are those of one slice; the
     // one that is written is lent to this call alone.
     unsafe {
         bore_round(
-            filter.rows.count,
-            &filter.rows.widths,
-            filter.columns.count,
-            &filter.columns.widths,
+            filter,
             sums.as_ptr(),
             sums.len(),
             out.as_mut_ptr(),
@@ -431,6 +414,9 @@ pub fn round(filter: &Filter, sums: &[u64], out: &mut [u8]) -> u8 {
     }
 }
 
+/// The greys of the picture's own places (document 01: the same-size blur), in
+/// an output of exactly the picture's size and with work cells of at least twice
+/// the grown size; refusals 1 to 8.
 pub fn blur(
     filter: &Filter,
     width: usize,
@@ -443,10 +429,7 @@ pub fn blur(
     // two that are written are lent to this call alone.
     unsafe {
         bore_blur(
-            filter.rows.count,
-            &filter.rows.widths,
-            filter.columns.count,
-            &filter.columns.widths,
+            filter,
             width,
             height,
             pixels.as_ptr(),
@@ -459,6 +442,10 @@ pub fn blur(
     }
 }
 
+/// The rounded differences of `a` and `b` at the picture's own places, in an
+/// output of exactly the picture's size and with work cells of at least twice
+/// both grown sizes together; refusals 1 to 4 of `a`, those of `b`, then 5 to 8,
+/// 12, 13.
 pub fn difference(
     a: &Filter,
     b: &Filter,
@@ -472,14 +459,8 @@ pub fn difference(
     // two that are written are lent to this call alone.
     unsafe {
         bore_difference(
-            a.rows.count,
-            &a.rows.widths,
-            a.columns.count,
-            &a.columns.widths,
-            b.rows.count,
-            &b.rows.widths,
-            b.columns.count,
-            &b.columns.widths,
+            a,
+            b,
             width,
             height,
             pixels.as_ptr(),
@@ -492,106 +473,67 @@ pub fn difference(
     }
 }
 
-/// The type of the library's readings, which differ in the value they write.
-type Reading<T> = unsafe extern "C" fn(
-    row_count: u8,
-    rows: &[u8; 48],
-    column_count: u8,
-    columns: &[u8; 48],
-    width: usize,
-    height: usize,
-    pixels: *const u8,
-    pixels_len: usize,
-    column: usize,
-    row: usize,
-    value: &mut T,
-) -> u8;
-
-/// Makes a reading.
-///
-/// # Safety
-///
-/// The call has to be one of the library's.
-unsafe fn read<T>(
-    call: Reading<T>,
-    filter: &Filter,
-    width: usize,
-    height: usize,
-    pixels: &[u8],
-    (column, row): (usize, usize),
-    value: &mut T,
-) -> u8 {
-    // SAFETY: the pointer and the length are those of one slice.
-    unsafe {
-        call(
-            filter.rows.count,
-            &filter.rows.widths,
-            filter.columns.count,
-            &filter.columns.widths,
-            width,
-            height,
-            pixels.as_ptr(),
-            pixels.len(),
-            column,
-            row,
-            value,
-        )
-    }
-}
-
+/// The reading of the grey alone; refusals as for `sample`.
 pub fn sample_gray(
     filter: &Filter,
     width: usize,
     height: usize,
     pixels: &[u8],
-    place: (usize, usize),
+    (column, row): (usize, usize),
     gray: &mut u8,
 ) -> u8 {
-    // SAFETY: the call is one of the library's.
-    unsafe { read(bore_sample_gray, filter, width, height, pixels, place, gray) }
+    let (start, len) = (pixels.as_ptr(), pixels.len());
+    // SAFETY: the pointer and the length are those of one slice.
+    unsafe { bore_sample_gray(filter, width, height, start, len, column, row, gray) }
 }
 
+/// The reading of the exact sum alone; refusals as for `sample`.
 pub fn sample_sum(
     filter: &Filter,
     width: usize,
     height: usize,
     pixels: &[u8],
-    place: (usize, usize),
+    (column, row): (usize, usize),
     sum: &mut u64,
 ) -> u8 {
-    // SAFETY: the call is one of the library's.
-    unsafe { read(bore_sample_sum, filter, width, height, pixels, place, sum) }
+    let (start, len) = (pixels.as_ptr(), pixels.len());
+    // SAFETY: the pointer and the length are those of one slice.
+    unsafe { bore_sample_sum(filter, width, height, start, len, column, row, sum) }
 }
 
+/// The reading of the quotient of sum and weight alone; refusals as for
+/// `sample`.
 pub fn sample_mean(
     filter: &Filter,
     width: usize,
     height: usize,
     pixels: &[u8],
-    place: (usize, usize),
+    (column, row): (usize, usize),
     mean: &mut f64,
 ) -> u8 {
-    // SAFETY: the call is one of the library's.
-    unsafe { read(bore_sample_mean, filter, width, height, pixels, place, mean) }
-}
-
-pub fn read_job(bytes: &[u8], job: &mut Job) -> u8 {
+    let (start, len) = (pixels.as_ptr(), pixels.len());
     // SAFETY: the pointer and the length are those of one slice.
-    unsafe {
-        bore_read_job(
-            bytes.as_ptr(),
-            bytes.len(),
-            &mut job.filter.rows.count,
-            &mut job.filter.rows.widths,
-            &mut job.filter.columns.count,
-            &mut job.filter.columns.widths,
-            &mut job.width,
-            &mut job.height,
-            &mut job.offset,
-        )
-    }
+    unsafe { bore_sample_mean(filter, width, height, start, len, column, row, mean) }
 }
 
+/// Reads a job. Whatever `job` holds, it becomes what the file says, with zeros
+/// past the counts, or after a refusal a job of zeros; refusals 14 for fewer
+/// than 7 bytes, mark or version, 1, 14 for lists and sides cut short, 2 to 5,
+/// then 14 for any other length.
+pub fn read_job(bytes: &[u8], job: &mut Job) -> u8 {
+    let mut words = [job.width, job.height, job.offset];
+    // SAFETY: the pointer and the length are those of one slice.
+    let number = unsafe { bore_read_job(bytes.as_ptr(), bytes.len(), &mut job.filter, &mut words) };
+    [job.width, job.height, job.offset] = words;
+    number
+}
+
+/// The length of a job in bytes; refusals 1 to 5.
+pub fn job_size(filter: &Filter, width: usize, height: usize, size: &mut usize) -> u8 {
+    bore_job_size(filter, width, height, size)
+}
+
+/// The bytes of a job, in an output of exactly its length; refusals 1 to 7.
 pub fn write_job(
     filter: &Filter,
     width: usize,
@@ -603,10 +545,7 @@ pub fn write_job(
     // one that is written is lent to this call alone.
     unsafe {
         bore_write_job(
-            filter.rows.count,
-            &filter.rows.widths,
-            filter.columns.count,
-            &filter.columns.widths,
+            filter,
             width,
             height,
             pixels.as_ptr(),

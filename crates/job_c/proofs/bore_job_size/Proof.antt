@@ -2,11 +2,12 @@
 -- Assumes nothing.
 use mathlib.Core.Path.{_≡_, sym, ap, _∙_}
 use borrow.Author.Needs.{needs}
+use Rattle.spec.specs.Recipe.{recipe}
 use Rattle.spec.specs.Job.{jobLength}
 use Rattle.spec.specs.Refusals.{answer, sizeChecks}
 use Rattle.laws.proofs.Refusals.{lent-refused, lent-accepted, read-refused, read-accepted}
 use Rattle.job.specs.Answers.{sizeTold}
-use Rattle.bore_c.specs.Given.{given}
+use Rattle.blocks.specs.Given.{given}
 use Rattle.job_c.proofs.bore_job_size.Statement.{statement}
 use Rattle.job_c.proofs.bore_job_size.Tie as tie
 
@@ -19,12 +20,12 @@ size-requires c κs = search needs
 -- the answer, for the recipe that is given
 answered : (c : tie.After-size) →
     let args = c .before .before .args in
-    let g = given (args .row-count) (args .rows .now) (args .column-count) (args .columns .now) in
+    let g = recipe (given (args .block .now)) in
     sizeTold (c .size .result) ≡ answer (sizeChecks g (args .width) (args .height)) (jobLength g (args .width) (args .height))
 answered c =
     let w = c .before .before .args .width in
     let h = c .before .before .args .height in
-    c .size .ensures ∙ ap (λ g. answer (sizeChecks g w h) (jobLength g w h)) (c .before .filter-of .ensures)
+    c .size .ensures ∙ ap (λ g. answer (sizeChecks g w h) (jobLength g w h)) (ap recipe (c .before .filter-of .ensures))
 
 enum-known-answer : tie.Need-enum-known-answer
 enum-known-answer c = search needs
