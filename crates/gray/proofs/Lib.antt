@@ -4,3 +4,5 @@ pub mod Taking
 pub mod Answering
 pub mod Parts
 pub mod Differences
+pub mod Pairs
+pub mod Planning

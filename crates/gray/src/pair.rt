@@ -1,19 +1,16 @@
 // The difference of two recipes.
 ghost use mathlib.Core.Path.{_≡_};
-ghost use mathlib.Core.Bool.{_||_};
-ghost use mathlib.Core.List.{[], _∷_};
-ghost use Prim.Native.Nat.{_+_, _*_, _^_, _≤_, _<_};
-ghost use lib.Dec.{ltb};
+ghost use Prim.Native.Nat.{_*_, _^_, _≤_, _<_};
 ghost use lib.ListN.{length, getD, take, drop};
 ghost use Rattle.spec.specs.Words.{tab};
 ghost use Rattle.spec.specs.Recipe.{recipe};
 ghost use Rattle.spec.specs.Picture.{picture, fullWidth};
-ghost use Rattle.spec.specs.Refusals.{check, first, oddApart, fullSize, sizeChecks};
+ghost use Rattle.spec.specs.Refusals.{first, sizeChecks};
 ghost use Rattle.filter.proofs.Refusal.{Known};
-ghost use Rattle.spec.specs.Gray.{nearestDifference, places, difference as differenceOf};
+ghost use Rattle.spec.specs.Gray.{nearestDifference, places as placesOf, difference as differenceOf};
 ghost use Rattle.gray.specs.Division.{Divides, Bounded};
 ghost use Rattle.rows.specs.Streaming.{pictureOf, Due, Came};
-ghost use Rattle.gray.specs.Pairs.{BothTaken, BothAccepted};
+ghost use Rattle.gray.specs.Pairs.{BothTaken, BothAccepted, Moderate, measuredChecks, planOf};
 ghost use Rattle.gray.specs.Written.{Differenced};
 use crate::grown::begin;
 use crate::grown::next;
@@ -41,22 +38,22 @@ fn signed(x: u64, y: u64, by: Divisor) -> i16
     if y <= x { size } else { -size }
 }
 
-// The differences of two rows of sums; `by` divides by the product of the weights.
-fn difference_row(
+// The weights of both recipes, and what divides by their product.
+struct Weights {
+    a: u64,
+    b: u64,
     by: Divisor,
-    a_gain: u64,
-    b_gain: u64,
-    a_sums: &[u64],
-    b_sums: &[u64],
-    out: &mut [i16],
-)
-    requires { ⌜ Divides («a_gain» * «b_gain») by × Bounded «a_gain» (now «a_sums») × Bounded «b_gain» (now «b_sums»)
+}
+
+// The differences of two rows of sums.
+fn difference_row(weights: Weights, a_sums: &[u64], b_sums: &[u64], out: &mut [i16])
+    requires { ⌜ Divides (weights .a * weights .b) (weights .by) × Bounded (weights .a) (now «a_sums») × Bounded (weights .b) (now «b_sums»)
         × (length (now «a_sums») ≡ length (now out)) × (length (now «b_sums») ≡ length (now out)) ⌝ }
     ensures { λ r. ⌜ now (out .exit) ≡ tab (length (now (out .entry)))
-        (λ k. nearestDifference (getD (now («a_sums» .entry)) k 0 * «b_gain») (getD (now («b_sums» .entry)) k 0 * «a_gain») («a_gain» * «b_gain»)) ⌝ }
+        (λ k. nearestDifference (getD (now («a_sums» .entry)) k 0 * weights .b) (getD (now («b_sums» .entry)) k 0 * weights .a) (weights .a * weights .b)) ⌝ }
 {
     for k in 0..out.len() {
-        out[k] = signed(a_sums[k] * b_gain, b_sums[k] * a_gain, by);
+        out[k] = signed(a_sums[k] * weights.b, b_sums[k] * weights.a, weights.by);
     }
 }
 
@@ -70,10 +67,10 @@ struct Pair {
 // some 3 million, the second those from there on.
 fn next_rows(
     at: Pair,
+    middle: usize,
     pixels: &[u8],
     a_row: &mut [u64],
     b_row: &mut [u64],
-    middle: usize,
     cells: &mut [u64],
 ) -> Pair
     requires { ⌜ Due (at .a) (now pixels) (now «a_row») (take middle (now cells)) × Due (at .b) (now pixels) (now «b_row») (drop middle (now cells))
@@ -88,46 +85,43 @@ fn next_rows(
     Pair { a, b }
 }
 
-// What is taken of one recipe's sums: its weight, and the first grown column.
-struct Operand {
-    gain: u64,
-    left: usize,
+// The first grown column that is taken of each recipe's rows, and the first of the second's work cells.
+struct Places {
+    a_left: usize,
+    b_left: usize,
+    middle: usize,
 }
 
 // The differences of all picture rows, from two states whose next grown rows are the first that are
 // taken.
 fn differences(
     pair: Pair,
-    a: Operand,
-    b: Operand,
-    by: Divisor,
+    weights: Weights,
+    places: Places,
     pixels: &[u8],
     a_row: &mut [u64],
     b_row: &mut [u64],
     out: &mut [i16],
-    middle: usize,
     cells: &mut [u64],
 )
-    requires { ⌜ BothTaken pair a b by middle (now pixels) (now «a_row») (now «b_row») (now cells)
+    requires { ⌜ BothTaken pair weights places (now pixels) (now «a_row») (now «b_row») (now cells)
         × (length (now out) ≡ pair .a .width * pair .a .height) ⌝ }
     ensures { λ r. let p = pictureOf (pair .a) (now (pixels .entry)) in
-        ⌜ now (out .exit) ≡ places p (differenceOf (recipe (pair .a .filter)) (recipe (pair .b .filter)) p) ⌝ }
+        ⌜ now (out .exit) ≡ placesOf p (differenceOf (recipe (pair .a .filter)) (recipe (pair .b .filter)) p) ⌝ }
 {
     let width = pair.a.width;
     let height = pair.a.height;
-    let a_left = a.left;
-    let b_left = b.left;
+    let a_left = places.a_left;
+    let b_left = places.b_left;
     let a_right = a_left + width;
     let b_right = b_left + width;
     let mut at = pair;
     let mut from: usize = 0;
     for j in 0..height {
-        at = next_rows(at, pixels, a_row, b_row, middle, cells);
+        at = next_rows(at, places.middle, pixels, a_row, b_row, cells);
         let to = from + width;
         difference_row(
-            by,
-            a.gain,
-            b.gain,
+            weights,
             &a_row[a_left..a_right],
             &b_row[b_left..b_right],
             &mut out[from..to],
@@ -136,80 +130,80 @@ fn differences(
     }
 }
 
-// The differences of two accepted recipes and an accepted picture, with a row of each grown width to
-// work in. The first recipe has the work cells before `middle`.
-fn run(
-    a: Filter,
-    b: Filter,
-    m: Measures,
-    n: Measures,
+// A recipe, and what measuring it told.
+struct Operand {
+    filter: Filter,
+    known: Measures,
+}
+
+// A picture's sides, and the first of the second recipe's work cells.
+struct Shape {
     width: usize,
     height: usize,
+    middle: usize,
+}
+
+// The differences of two accepted recipes and an accepted picture, with a row of each grown width to
+// work in.
+fn run(
+    a: Operand,
+    b: Operand,
+    shape: Shape,
     pixels: &[u8],
     a_row: &mut [u64],
     b_row: &mut [u64],
     out: &mut [i16],
-    middle: usize,
     cells: &mut [u64],
 )
-    requires { let p = picture width height (now pixels) in
-        ⌜ BothAccepted (recipe a) (recipe b) p m n × (length (now «a_row») ≡ fullWidth (recipe a) width)
-        × (length (now «b_row») ≡ fullWidth (recipe b) width) × (length (now out) ≡ width * height)
-        × (middle ≡ 2 * fullSize (recipe a) p) × (length (now cells) ≡ 2 * (fullSize (recipe a) p + fullSize (recipe b) p)) ⌝ }
-    ensures { λ r. let p = picture width height (now (pixels .entry)) in
-        ⌜ now (out .exit) ≡ places p (differenceOf (recipe a) (recipe b) p) ⌝ }
+    requires { let p = picture (shape .width) (shape .height) (now pixels) in
+        ⌜ BothAccepted a b p (shape .middle) (length (now cells)) × (length (now «a_row») ≡ fullWidth (recipe (a .filter)) (shape .width))
+        × (length (now «b_row») ≡ fullWidth (recipe (b .filter)) (shape .width)) × (length (now out) ≡ shape .width * shape .height) ⌝ }
+    ensures { λ r. let p = picture (shape .width) (shape .height) (now (pixels .entry)) in
+        ⌜ now (out .exit) ≡ placesOf p (differenceOf (recipe (a .filter)) (recipe (b .filter)) p) ⌝ }
 {
     let z: usize = 0;
+    let middle = shape.middle;
     let end = cells.len();
-    let a_above = m.column_order / 2;
-    let b_above = n.column_order / 2;
     let first = begin(
-        a,
-        width,
-        height,
-        a_above,
+        a.filter,
+        shape.width,
+        shape.height,
+        a.known.column_order / 2,
         pixels,
         a_row,
         &mut cells[z..middle],
     );
     let second = begin(
-        b,
-        width,
-        height,
-        b_above,
+        b.filter,
+        shape.width,
+        shape.height,
+        b.known.column_order / 2,
         pixels,
         b_row,
         &mut cells[middle..end],
     );
-    differences(
-        Pair {
-            a: first,
-            b: second,
-        },
-        Operand {
-            gain: m.gain,
-            left: m.row_order / 2,
-        },
-        Operand {
-            gain: n.gain,
-            left: n.row_order / 2,
-        },
-        divisor_of(m.gain * n.gain),
-        pixels,
-        a_row,
-        b_row,
-        out,
+    let pair = Pair {
+        a: first,
+        b: second,
+    };
+    let weights = Weights {
+        a: a.known.gain,
+        b: b.known.gain,
+        by: divisor_of(a.known.gain * b.known.gain),
+    };
+    let places = Places {
+        a_left: a.known.row_order / 2,
+        b_left: b.known.row_order / 2,
         middle,
-        cells,
-    );
+    };
+    differences(pair, weights, places, pixels, a_row, b_row, out, cells);
 }
 
 // 12 and 13: the reaches differ in parity on an axis, or the product of the weights is too large. That
 // product need not fit 64 bits, so the limit is divided by one of them.
 fn pair_refusal(m: Measures, n: Measures) -> u8
     requires { ⌜ 0 < m .gain ⌝ }
-    ensures { λ r. ⌜ r ≡ first (check (oddApart (m .«row_order») (n .«row_order») || oddApart (m .«column_order») (n .«column_order»)) 12
-        ∷ check (ltb (2 ^ 44) (m .gain * n .gain)) 13 ∷ []) ⌝ }
+    ensures { λ r. ⌜ r ≡ first (measuredChecks m n) ⌝ }
 {
     if m.row_order % 2 != n.row_order % 2 {
         12
@@ -222,37 +216,76 @@ fn pair_refusal(m: Measures, n: Measures) -> u8
     }
 }
 
+// A picture's sides, and how long the slices are that are lent with it.
+struct Given {
+    width: usize,
+    height: usize,
+    pixels: usize,
+    out: usize,
+    cells: usize,
+}
+
+// A refusal or 0, the grown widths, the first of the second recipe's work cells, and how many are
+// needed.
+struct Plan {
+    refusal: u8,
+    a_width: usize,
+    b_width: usize,
+    middle: usize,
+    needed: usize,
+}
+
+// The checks 6, 7, 8, 12 and 13, and the sizes.
+fn planned(m: Measures, n: Measures, given: Given) -> Plan
+    requires { ⌜ Moderate m (given .width) (given .height) × Moderate n (given .width) (given .height) × (0 < m .gain) ⌝ }
+    ensures { λ r. ⌜ r ≡ planOf m n given ⌝ }
+{
+    let size = given.width * given.height;
+    let a_width = given.width + m.row_order;
+    let b_width = given.width + n.row_order;
+    let middle = 2 * (a_width * (given.height + m.column_order));
+    let needed = middle + 2 * (b_width * (given.height + n.column_order));
+    let refusal = if given.pixels != size {
+        6
+    } else if given.out != size {
+        7
+    } else if given.cells < needed {
+        8
+    } else {
+        pair_refusal(m, n)
+    };
+    Plan {
+        refusal,
+        a_width,
+        b_width,
+        middle,
+        needed,
+    }
+}
+
 // The checks 6, 7, 8, 12 and 13, and the differences where none of them holds.
 fn sized(
-    a: Filter,
-    b: Filter,
-    m: Measures,
-    n: Measures,
+    a: Operand,
+    b: Operand,
     width: usize,
     height: usize,
     pixels: &[u8],
     out: &mut [i16],
     cells: &mut [u64],
 ) -> u8
-    requires { ⌜ Known (recipe a) m × Known (recipe b) n × (first (sizeChecks (recipe b) width height) ≡ 0) ⌝ }
+    requires { ⌜ Known (recipe (a .filter)) (a .known) × Known (recipe (b .filter)) (b .known) × (first (sizeChecks (recipe (b .filter)) width height) ≡ 0) ⌝ }
     ensures { λ r. let p = picture width height (now (pixels .entry)) in
-        ⌜ Differenced (recipe a) (recipe b) p (now (out .entry)) (now (cells .entry)) r (now (out .exit)) (now (cells .exit)) ⌝ }
+        ⌜ Differenced (recipe (a .filter)) (recipe (b .filter)) p (now (out .entry)) (now (cells .entry)) r (now (out .exit)) (now (cells .exit)) ⌝ }
 {
-    let size = width * height;
-    if pixels.len() != size {
-        return 6;
-    }
-    if out.len() != size {
-        return 7;
-    }
-    let a_width = width + m.row_order;
-    let b_width = width + n.row_order;
-    let middle = 2 * (a_width * (height + m.column_order));
-    let needed = middle + 2 * (b_width * (height + n.column_order));
-    if cells.len() < needed {
-        return 8;
-    }
-    let number = pair_refusal(m, n);
+    let given = Given {
+        width,
+        height,
+        pixels: pixels.len(),
+        out: out.len(),
+        cells: cells.len(),
+    };
+    let plan = planned(a.known, b.known, given);
+    let number = plan.refusal;
     if number != 0 {
         return number;
     }
@@ -260,18 +293,22 @@ fn sized(
     let mut a_row = [0u64; 1279];
     let mut b_row = [0u64; 1279];
     let z: usize = 0;
+    let a_width = plan.a_width;
+    let b_width = plan.b_width;
+    let needed = plan.needed;
+    let shape = Shape {
+        width,
+        height,
+        middle: plan.middle,
+    };
     run(
         a,
         b,
-        m,
-        n,
-        width,
-        height,
+        shape,
         pixels,
         &mut a_row[z..a_width],
         &mut b_row[z..b_width],
         out,
-        middle,
         &mut cells[z..needed],
     );
     0
@@ -299,6 +336,16 @@ pub fn difference(
     let answer = full_size(b, width, height);
     match answer {
         FullSize::Refused(number) => number,
-        FullSize::Sides { .. } => sized(a, b, m, measure(b), width, height, pixels, out, cells),
+        FullSize::Sides { .. } => {
+            let first = Operand {
+                filter: a,
+                known: m,
+            };
+            let second = Operand {
+                filter: b,
+                known: measure(b),
+            };
+            sized(first, second, width, height, pixels, out, cells)
+        }
     }
 }

@@ -6,7 +6,7 @@ use Rattle.spec.specs.Refusals.{sizeChecks}
 use Rattle.laws.proofs.Refusals.{read-refused, read-accepted, none-both, recipe-numbered, written-not}
 use Rattle.filter.specs.Answers.{sizeTold}
 use Rattle.filter.proofs.Refusal.{known, number-is}
-use Rattle.gray.proofs.Answering.{pair-first, pair-sides}
+use Rattle.gray.proofs.Planning.{pair-first, pair-sides}
 use Rattle.gray.proofs.pair.difference.Statement.{statement}
 use Rattle.gray.proofs.pair.difference.Tie as tie
 

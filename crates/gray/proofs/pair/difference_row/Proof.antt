@@ -12,21 +12,22 @@ use mir.Syntax.{w16}
 use mir.ValLaws.{toZ-ofZ}
 use Rattle.spec.specs.Gray.{nearestDifference}
 use Rattle.laws.proofs.Slices.{Rightwards, rightwards-none, rightwards-more, rightwards-all}
+use Rattle.gray.specs.declared.pair.Weights.{Weights}
 use Rattle.gray.specs.Division.{Divides}
 use Rattle.gray.proofs.Differences.{times-other}
 use Rattle.gray.proofs.pair.difference_row.Statement.{statement}
 use Rattle.gray.proofs.pair.difference_row.Tie as tie
 
 -- the difference of the sums at k
-abbrev made : ℕ → ℕ → List ℕ → List ℕ → ℕ → ℤ
-made a-gain b-gain a-sums b-sums k = nearestDifference (getD a-sums k 0 * b-gain) (getD b-sums k 0 * a-gain) (a-gain * b-gain)
+abbrev made : Weights → List ℕ → List ℕ → ℕ → ℤ
+made w a-sums b-sums k = nearestDifference (getD a-sums k 0 * w .b) (getD b-sums k 0 * w .a) (w .a * w .b)
 
 abbrev Inv-loop : tie.InvT-loop
-Inv-loop by a-gain b-gain a-sums b-sums out₀ k₀ k-end out k =
-    (k-end ≡ length out₀) × (length out ≡ length out₀) × (k ≤ k-end) × Rightwards (made a-gain b-gain a-sums b-sums) out₀ k out
+Inv-loop weights a-sums b-sums out₀ k₀ k-end out k =
+    (k-end ≡ length out₀) × (length out ≡ length out₀) × (k ≤ k-end) × Rightwards (made weights a-sums b-sums) out₀ k out
 
 abbrev μ-loop : tie.MeasureT-loop
-μ-loop by a-gain b-gain a-sums b-sums out₀ k₀ k-end out k = k-end - k
+μ-loop weights a-sums b-sums out₀ k₀ k-end out k = k-end - k
 
 loop-holds : tie.Need-loop-holds Inv-loop μ-loop
 loop-holds c =
@@ -34,7 +35,7 @@ loop-holds c =
       search needs,
       search needs,
       search needs,
-      rightwards-none (made (a .a-gain) (a .b-gain) (a .a-sums .now) (a .b-sums .now)) (a .out .now),
+      rightwards-none (made (a .weights) (a .a-sums .now) (a .b-sums .now)) (a .out .now),
     )
 
 -- each sum times the other weight, in a turn
@@ -42,15 +43,15 @@ module _ (c : tie.In-loop Inv-loop μ-loop) where
   abbrev start : tie.Start Inv-loop μ-loop
   start = c .before .before .before .before
 
-  left : getD (start .args .a-sums .now) (c .before .loop .k) 0 * start .args .b-gain ≤ 255 * (start .args .a-gain * start .args .b-gain)
-  left = times-other (start .args .a-gain) (start .args .b-gain) _ (start .pre .1 (c .before .loop .k))
+  left : getD (start .args .a-sums .now) (c .before .loop .k) 0 * start .args .weights .b ≤ 255 * (start .args .weights .a * start .args .weights .b)
+  left = times-other (start .args .weights .a) (start .args .weights .b) _ (start .pre .1 (c .before .loop .k))
 
-  right : getD (start .args .b-sums .now) (c .before .loop .k) 0 * start .args .a-gain ≤ 255 * (start .args .a-gain * start .args .b-gain)
+  right : getD (start .args .b-sums .now) (c .before .loop .k) 0 * start .args .weights .a ≤ 255 * (start .args .weights .a * start .args .weights .b)
   right =
       omega (
         arith,
-        times-other (start .args .b-gain) (start .args .a-gain) _ (start .pre .2 (c .before .loop .k)),
-        mul-comm (start .args .a-gain) (start .args .b-gain),
+        times-other (start .args .weights .b) (start .args .weights .a) _ (start .pre .2 (c .before .loop .k)),
+        mul-comm (start .args .weights .a) (start .args .weights .b),
       )
 
 mul-signed : tie.Need-mul-signed Inv-loop μ-loop
@@ -60,7 +61,7 @@ shared-slice-read-signed : tie.Need-shared-slice-read-signed Inv-loop μ-loop
 shared-slice-read-signed c = search needs
 
 mul-signed-2 : tie.Need-mul-signed-2 Inv-loop μ-loop
-mul-signed-2 c = record { fits = omega (arith, left (c .before), right (c .before), start (c .before) .pre .0 .light) }
+mul-signed-2 c = let turn = c .before .before in record { fits = omega (arith, left turn, right turn, start turn .pre .0 .light) }
 
 mul-signed-3 : tie.Need-mul-signed-3 Inv-loop μ-loop
 mul-signed-3 c = search needs
@@ -69,19 +70,19 @@ shared-slice-read-signed-2 : tie.Need-shared-slice-read-signed-2 Inv-loop μ-loo
 shared-slice-read-signed-2 c = search needs
 
 mul-signed-4 : tie.Need-mul-signed-4 Inv-loop μ-loop
-mul-signed-4 c = record { fits = omega (arith, left (c .before .before), right (c .before .before), start (c .before .before) .pre .0 .light) }
+mul-signed-4 c = let turn = c .before .before .before .before in record { fits = omega (arith, left turn, right turn, start turn .pre .0 .light) }
 
 signed-requires : tie.Need-signed-requires Inv-loop μ-loop
 signed-requires c κs =
-    let turn = c .before .before in
+    let turn = c .before .before .before .before in
     let d = start turn .pre .0 in (
-      subst (λ w. Divides w (start turn .args .by)) (sym (d .is)) d,
+      subst (λ w. Divides w (start turn .args .weights .by)) (sym (d .is)) d,
       omega (arith, left turn, right turn, d .is),
       omega (arith, left turn, right turn, d .is),
     )
 
-mul-t19 : tie.Need-mul-t19 Inv-loop μ-loop
-mul-t19 c = search needs
+mul-t17 : tie.Need-mul-t17 Inv-loop μ-loop
+mul-t17 c = search needs
 
 slice-set-from-out : tie.Need-slice-set-from-out Inv-loop μ-loop
 slice-set-from-out c = search needs
@@ -94,15 +95,16 @@ loop-less c = search needs
 
 loop-again : tie.Need-loop-again Inv-loop μ-loop
 loop-again c =
-    let turn = c .before .before .before .before .loop in
-    let a = start (c .before .before .before) .args in (
+    let test = c .before .before .before .before .before in
+    let turn = test .before .loop in
+    let a = start test .args in (
       search needs,
       simp length-set (turn .inv .1),
       search needs,
-      rightwards-more (made (a .a-gain) (a .b-gain) (a .a-sums .now) (a .b-sums .now)) (a .out .now) _ (turn .inv .3) (search needs)
+      rightwards-more (made (a .weights) (a .a-sums .now) (a .b-sums .now)) (a .out .now) _ (turn .inv .3) (search needs)
           (toZ-ofZ w16 _ (sfits-of (c .signed .ok))
           ∙ c .signed .ensures
-          ∙ ap (nearestDifference (getD (a .a-sums .now) (turn .k) 0 * a .b-gain) (getD (a .b-sums .now) (turn .k) 0 * a .a-gain)) (start (c .before .before .before) .pre .0 .is)),
+          ∙ ap (nearestDifference (getD (a .a-sums .now) (turn .k) 0 * a .weights .b) (getD (a .b-sums .now) (turn .k) 0 * a .weights .a)) (start test .pre .0 .is)),
     )
 
 same-length : tie.Need-same-length Inv-loop μ-loop
@@ -112,7 +114,7 @@ returns : tie.Need-returns Inv-loop μ-loop
 returns c =
     let turn = c .before .loop in
     let a = c .before .before .before .before .args in
-    rightwards-all (made (a .a-gain) (a .b-gain) (a .a-sums .now) (a .b-sums .now)) (a .out .now) (turn .inv .3) (search needs)
+    rightwards-all (made (a .weights) (a .a-sums .now) (a .b-sums .now)) (a .out .now) (turn .inv .3) (search needs)
 
 pub difference-row-spec : {M : Type 1} → statement M
 difference-row-spec =
@@ -128,7 +130,7 @@ difference-row-spec =
     shared-slice-read-signed-2
     mul-signed-4
     signed-requires
-    mul-t19
+    mul-t17
     slice-set-from-out
     add-k
     loop-less

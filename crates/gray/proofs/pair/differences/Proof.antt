@@ -23,18 +23,18 @@ use Rattle.gray.proofs.pair.differences.Statement.{statement}
 use Rattle.gray.proofs.pair.differences.Tie as tie
 
 abbrev Inv-loop : tie.InvT-loop
-Inv-loop a b by pixels a-row₀ b-row₀ out₀ middle cells₀ width height a-left b-left a-right b-right at₀ from₀ j₀ a-row b-row out cells at from j =
+Inv-loop weights lefts pixels a-row₀ b-row₀ out₀ cells₀ width height a-left b-left a-right b-right at₀ from₀ j₀ a-row b-row out cells at from j =
     let p = pictureOf (at₀ .a) pixels in
     let q = pictureOf (at₀ .b) pixels in
     let r = recipe (at₀ .a .filter) in
     let s = recipe (at₀ .b .filter) in
     (j ≤ height) × (from ≡ j * width) × (length a-row ≡ length a-row₀) × (length b-row ≡ length b-row₀) × (length out ≡ length out₀)
     × (length cells ≡ length cells₀)
-    × Streamed (at₀ .a .filter) p (sameRow r j) (at .a) (take middle cells) × Streamed (at₀ .b .filter) q (sameRow s j) (at .b) (drop middle cells)
+    × Streamed (at₀ .a .filter) p (sameRow r j) (at .a) (take (lefts .middle) cells) × Streamed (at₀ .b .filter) q (sameRow s j) (at .b) (drop (lefts .middle) cells)
     × Mixed from (places p (difference r s p)) out₀ out
 
 abbrev μ-loop : tie.MeasureT-loop
-μ-loop a b by pixels a-row₀ b-row₀ out₀ middle cells₀ width height a-left b-left a-right b-right at₀ from₀ j₀ a-row b-row out cells at from j =
+μ-loop weights lefts pixels a-row₀ b-row₀ out₀ cells₀ width height a-left b-left a-right b-right at₀ from₀ j₀ a-row b-row out cells at from j =
     height - j
 
 -- both recipes are taken of one picture
@@ -44,8 +44,8 @@ one-picture c = ap₂ (λ w h. picture w h (c .args .pixels .now)) (c .pre .0 .s
 -- the sizes of an accepted picture
 sizes : (c : tie.Start Inv-loop μ-loop) → let s = c .args .pair .a in let t = c .args .pair .b in
     record {
-      first : c .args .a .left + s .width ≤ fullWidth (recipe (s .filter)) (s .width);
-      second : c .args .b .left + s .width ≤ fullWidth (recipe (t .filter)) (t .width);
+      first : c .args .places .«a_left» + s .width ≤ fullWidth (recipe (s .filter)) (s .width);
+      second : c .args .places .«b_left» + s .width ≤ fullWidth (recipe (t .filter)) (t .width);
       firstMost : fullWidth (recipe (s .filter)) (s .width) ≤ 1279;
       secondMost : fullWidth (recipe (t .filter)) (t .width) ≤ 1279;
       out : s .width * s .height ≤ 1024 * 1024;
@@ -84,8 +84,8 @@ loop-holds c =
       search needs,
       search needs,
       search needs,
-      subst (λ k. Streamed (s .filter) p k s (take (start .args .middle) (start .args .cells .now))) (sym (zero-add (order (recipe (s .filter) .columns) / 2))) (start .pre .0 .first .streamed),
-      subst (λ k. Streamed (t .filter) (pictureOf t (start .args .pixels .now)) k t (drop (start .args .middle) (start .args .cells .now))) (sym (zero-add (order (recipe (t .filter) .columns) / 2))) (start .pre .0 .second .streamed),
+      subst (λ k. Streamed (s .filter) p k s (take (start .args .places .middle) (start .args .cells .now))) (sym (zero-add (order (recipe (s .filter) .columns) / 2))) (start .pre .0 .first .streamed),
+      subst (λ k. Streamed (t .filter) (pictureOf t (start .args .pixels .now)) k t (drop (start .args .places .middle) (start .args .cells .now))) (sym (zero-add (order (recipe (t .filter) .columns) / 2))) (start .pre .0 .second .streamed),
       mixed-none (places p d) out size,
     )
 
@@ -105,14 +105,14 @@ next-rows-requires c κs =
 -- the rows that have come
 first-came : (c : tie.After-next-rows Inv-loop μ-loop) → let turn = c .before .before .before .before .before in let start = turn .before .before .before .before .before in let s = start .args .pair .a in
     let p = pictureOf s (start .args .pixels .now) in let r = recipe (s .filter) in let rows = c .next-rows in
-    Streamed (s .filter) p (sameRow r (turn .loop .j) + 1) (rows .result .a) (take (start .args .middle) (rows .last .1 .1 .1 .1 .1 .0))
-    × (rows .last .1 .1 .0 ≡ fullRow r p (sameRow r (turn .loop .j)))
+    Streamed (s .filter) p (sameRow r (turn .loop .j) + 1) (rows .result .a) (take (start .args .places .middle) (rows .last .1 .1 .1 .1 .1 .0))
+    × (rows .last .1 .1 .1 .0 ≡ fullRow r p (sameRow r (turn .loop .j)))
 first-came c = has-come _ _ _ _ _ _ _ (c .before .before .before .before .before .loop .inv .6) _ _ _ (c .next-rows .ensures .0)
 
 second-came : (c : tie.After-next-rows Inv-loop μ-loop) → let turn = c .before .before .before .before .before in let start = turn .before .before .before .before .before in let s = start .args .pair .b in
     let p = pictureOf s (start .args .pixels .now) in let r = recipe (s .filter) in let rows = c .next-rows in
-    Streamed (s .filter) p (sameRow r (turn .loop .j) + 1) (rows .result .b) (drop (start .args .middle) (rows .last .1 .1 .1 .1 .1 .0))
-    × (rows .last .1 .1 .1 .0 ≡ fullRow r p (sameRow r (turn .loop .j)))
+    Streamed (s .filter) p (sameRow r (turn .loop .j) + 1) (rows .result .b) (drop (start .args .places .middle) (rows .last .1 .1 .1 .1 .1 .0))
+    × (rows .last .1 .1 .1 .1 .0 ≡ fullRow r p (sameRow r (turn .loop .j)))
 second-came c = has-come _ _ _ _ _ _ _ (c .before .before .before .before .before .loop .inv .7) _ _ _ (c .next-rows .ensures .1)
 
 -- the row of differences lies inside the output
@@ -178,16 +178,16 @@ difference-row-requires c κs =
     let taken = start .pre .0 in
     let s = start .args .pair .a in
     let t = start .args .pair .b in
-    let left = start .args .a .left in
-    let other = start .args .b .left in
+    let left = start .args .places .«a_left» in
+    let other = start .args .places .«b_left» in
     let many : left + s .width - left ≡ s .width = omega arith in
     let more : other + s .width - other ≡ t .width = omega (arith, taken .sameWidth) in
     let bytes : (k : ℕ) → getD (start .args .pixels .now) k 0 ≤ 255 = λ k. omega (arith, c .before .before .before .before .before .before .before .before .before .before .before .before .before .before .before .before .before .before .before .before .shared-slice-known .given k) in
     let out = sym (length-lent (turn .loop .from) (s .width) (turn .loop .out) (inside test)) in (
       taken .divides,
-      subst (λ w. Bounded w (take (left + s .width - left) (drop left (rows .next-rows .last .1 .1 .0)))) (sym (taken .aGain))
+      subst (λ w. Bounded w (take (left + s .width - left) (drop left (rows .next-rows .last .1 .1 .1 .0)))) (sym (taken .aGain))
           (taken-bounded _ _ _ _ (first-came rows .1) left _ (taken .first .half) many bytes),
-      subst (λ w. Bounded w (take (other + s .width - other) (drop other (rows .next-rows .last .1 .1 .1 .0)))) (sym (taken .bGain))
+      subst (λ w. Bounded w (take (other + s .width - other) (drop other (rows .next-rows .last .1 .1 .1 .1 .0)))) (sym (taken .bGain))
           (taken-bounded _ _ _ _ (second-came rows .1) other _ (taken .second .half) more bytes),
       taken-length _ _ _ _ (first-came rows .1) left _ (taken .first .half) many ∙ out,
       taken-length _ _ _ _ (second-came rows .1) other _ (taken .second .half) more ∙ taken .sameWidth ∙ out,
@@ -214,15 +214,15 @@ loop-again c =
     let g = recipe (t .filter) in
     let j = turn .loop .j in
     let from = turn .loop .from in
-    let left = start .args .a .left in
-    let other = start .args .b .left in
+    let left = start .args .places .«a_left» in
+    let other = start .args .places .«b_left» in
     let below : j < s .height = test .loop-test .taken in
     let first-follows : sameRow f j + 1 ≡ sameRow f (j + 1) = omega arith in
     let second-follows : sameRow g j + 1 ≡ sameRow g (j + 1) = omega arith in
     let many : left + s .width - left ≡ s .width = omega arith in
     let more : other + s .width - other ≡ t .width = omega (arith, taken .sameWidth) in
-    let xs = take (left + s .width - left) (drop left (rows .next-rows .last .1 .1 .0)) in
-    let ys = take (other + s .width - other) (drop other (rows .next-rows .last .1 .1 .1 .0)) in
+    let xs = take (left + s .width - left) (drop left (rows .next-rows .last .1 .1 .1 .0)) in
+    let ys = take (other + s .width - other) (drop other (rows .next-rows .last .1 .1 .1 .1 .0)) in
     let made =
     c .before .difference-row .ensures
     ∙ row-of-differences f g p j xs ys _ _ _ (taken .aGain) (taken .bGain) (length-lent from (s .width) (turn .loop .out) (inside test))
@@ -236,8 +236,8 @@ loop-again c =
       long _ _ _ _ (second-came rows .1) ∙ sym (taken .second .wide),
       length-mixed written,
       rows .next-rows .kept .1 .1 .1 .1 .1 .0 ∙ turn .loop .inv .5,
-      subst (λ k. Streamed (s .filter) p k (rows .next-rows .result .a) (take (start .args .middle) (rows .next-rows .last .1 .1 .1 .1 .1 .0))) first-follows (first-came rows .0),
-      subst (λ k. Streamed (t .filter) (pictureOf t (start .args .pixels .now)) k (rows .next-rows .result .b) (drop (start .args .middle) (rows .next-rows .last .1 .1 .1 .1 .1 .0))) second-follows
+      subst (λ k. Streamed (s .filter) p k (rows .next-rows .result .a) (take (start .args .places .middle) (rows .next-rows .last .1 .1 .1 .1 .1 .0))) first-follows (first-came rows .0),
+      subst (λ k. Streamed (t .filter) (pictureOf t (start .args .pixels .now)) k (rows .next-rows .result .b) (drop (start .args .places .middle) (rows .next-rows .last .1 .1 .1 .1 .1 .0))) second-follows
           (second-came rows .0),
       written,
     )
