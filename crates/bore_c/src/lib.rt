@@ -16,8 +16,9 @@ ghost use Rattle.filter.specs.Filled.{Filled};
 ghost use Rattle.direct.specs.Formed.{Formed};
 ghost use Rattle.passes.specs.Passed.{Passed};
 ghost use Rattle.stream.specs.Calls.{start, push, drain};
-ghost use Rattle.gray.specs.Rounded.{Rounded};
-ghost use Rattle.gray.specs.Written.{Blurred, Differenced};
+ghost use Rattle.rounding.specs.Rounded.{Rounded};
+ghost use Rattle.blur.specs.Written.{Blurred};
+ghost use Rattle.difference.specs.Written.{Differenced};
 ghost use Rattle.sample.specs.Sampled.{chosen};
 ghost use Rattle.bore_c.specs.Given.{given, givenState, began, called};
 ghost use Rattle.bore_c.specs.Placed.{Placed};
@@ -444,7 +445,7 @@ pub extern "C" fn bore_round(
     ensures { λ r. let g = given «row_count» (now (rows .entry)) «column_count» (now (columns .entry)) in
         ⌜ Rounded g (now (sums .entry)) (now (out .entry)) r (now (out .exit)) ⌝ }
 {
-    gray::round(filter_of(row_count, rows, column_count, columns), sums, out)
+    rounding::round(filter_of(row_count, rows, column_count, columns), sums, out)
 }
 
 // The blur of a picture in its own size: 1 to 8.
@@ -464,7 +465,7 @@ pub extern "C" fn bore_blur(
         ⌜ Blurred g (picture width height (now (pixels .entry))) (now (out .entry)) (now (cells .entry)) r (now (out .exit)) (now (cells .exit)) ⌝ }
 {
     let for_blur = filter_of(row_count, rows, column_count, columns);
-    gray::blur(for_blur, width, height, pixels, out, cells)
+    blur::blur(for_blur, width, height, pixels, out, cells)
 }
 
 // The difference of two recipes at each picture place: the first's 1 to 4, then the second's 1 to 4, then
@@ -491,7 +492,7 @@ pub extern "C" fn bore_difference(
 {
     let a = filter_of(a_row_count, a_rows, a_column_count, a_columns);
     let b = filter_of(b_row_count, b_rows, b_column_count, b_columns);
-    gray::difference(a, b, width, height, pixels, out, cells)
+    difference::difference(a, b, width, height, pixels, out, cells)
 }
 
 // The reading at a picture place, written to the place of the quantity that is chosen. The other two
