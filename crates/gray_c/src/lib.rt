@@ -5,8 +5,9 @@ ghost use Rattle.spec.specs.Recipe.{recipe};
 ghost use Rattle.spec.specs.Picture.{picture};
 ghost use Rattle.spec.specs.Gray.{sameSum, sameGray, sameQuotient, reading};
 ghost use Rattle.spec.specs.Refusals.{first, lent, readingChecks};
-ghost use Rattle.gray.specs.Rounded.{Rounded};
-ghost use Rattle.gray.specs.Written.{Blurred, Differenced};
+ghost use Rattle.rounding.specs.Rounded.{Rounded};
+ghost use Rattle.blur.specs.Written.{Blurred};
+ghost use Rattle.difference.specs.Written.{Differenced};
 ghost use Rattle.sample.specs.Sampled.{chosen};
 ghost use Rattle.blocks.specs.Given.{given};
 ghost use Rattle.gray_c.specs.Placed.{Placed};
@@ -21,7 +22,7 @@ use spec::Filter;
 pub extern "C" fn bore_round(block: &[u8; 98], sums: &[u64], out: &mut [u8]) -> u8
     ensures { λ r. ⌜ Rounded (recipe (given (now (block .entry)))) (now (sums .entry)) (now (out .entry)) r (now (out .exit)) ⌝ }
 {
-    gray::round(filter_of(block), sums, out)
+    rounding::round(filter_of(block), sums, out)
 }
 
 // The blur of a picture in its own size: 1 to 8.
@@ -38,7 +39,7 @@ pub extern "C" fn bore_blur(
         (now (out .entry)) (now (cells .entry)) r (now (out .exit)) (now (cells .exit)) ⌝ }
 {
     let filter = filter_of(block);
-    gray::blur(filter, width, height, pixels, out, cells)
+    blur::blur(filter, width, height, pixels, out, cells)
 }
 
 // The difference of two recipes at each picture place: the first's 1 to 4, then the second's 1 to 4, then
@@ -58,7 +59,7 @@ pub extern "C" fn bore_difference(
 {
     let first = filter_of(a);
     let second = filter_of(b);
-    gray::difference(first, second, width, height, pixels, out, cells)
+    difference::difference(first, second, width, height, pixels, out, cells)
 }
 
 // The reading at a picture place, written to the place of the quantity that is chosen. The other two

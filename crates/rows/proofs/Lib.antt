@@ -3,3 +3,4 @@ pub mod Yield
 pub mod Run
 pub mod Driving
 pub mod Advancing
+pub mod Taking

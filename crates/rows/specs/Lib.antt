@@ -2,3 +2,4 @@ pub mod Runs
 pub mod OnePass
 pub mod Streaming
 pub mod Advance
+pub mod Taking

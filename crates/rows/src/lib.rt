@@ -1,10 +1,10 @@
-// The one pass over a whole picture: the theorem about a whole list of calls, and a call that yields the
-// next grown row.
+// The one pass over a whole picture: the theorem about a whole list of calls, a call that yields the next
+// grown row, and one that passes over grown rows.
 ghost use mathlib.Core.Path.{_≡_};
 ghost use Prim.Native.Nat.{_+_, _*_};
 ghost use lib.Dec.{leb};
 ghost use Rattle.stream.specs.Calls.{called};
-ghost use Rattle.rows.specs.Advance.{advance as advanceOf};
+ghost use Rattle.rows.specs.Advance.{advance as advanceOf, skipped, skip as skipOf};
 pub use stream::State;
 pub use stream::Stepped;
 use stream::drain;
@@ -37,4 +37,16 @@ pub fn advance(state: State, pixels: &[u8], out: &mut [u64], cells: &mut [u64]) 
     } else {
         drain(state, out, cells)
     }
+}
+
+// Passes over as many grown rows as `count` says, each as by `advance`; the last of them stands in `row`.
+// A call that is refused changes nothing.
+pub fn skip(state: State, count: usize, pixels: &[u8], row: &mut [u64], cells: &mut [u64]) -> State
+    ensures { λ r. ⌜ skipped r (now (row .exit)) (now (cells .exit)) ≡ skipOf count state (now (pixels .entry)) (now (row .entry)) (now (cells .entry)) ⌝ }
+{
+    let mut at = state;
+    for k in 0..count {
+        at = advance(at, pixels, row, cells).state;
+    }
+    at
 }

@@ -1,4 +1,4 @@
--- `gray_c::bore_difference` meets its contract: the answer of `gray::difference`, for the two recipes that are given.
+-- `gray_c::bore_difference` meets its contract: the answer of `difference::difference`, for the two recipes that are given.
 -- Assumes nothing.
 use borrow.Author.Needs.{needs}
 use Rattle.gray_c.proofs.bore_difference.Statement.{statement}

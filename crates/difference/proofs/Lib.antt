@@ -1,0 +1,4 @@
+pub mod Parts
+pub mod Nearest
+pub mod Pairs
+pub mod Planning

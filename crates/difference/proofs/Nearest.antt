@@ -1,0 +1,69 @@
+-- Differences: the nearest whole number of each sign, a byte and its negation in 16 bits, and how large a sum times the other weight is.
+-- Assumes nothing.
+use mathlib.Core.Path.{_≡_, sym, ap, ap₂, subst, _∙_}
+use mathlib.Core.Bool.{Bool, true, false, cond}
+use mathlib.Core.List.{List}
+use Prim.Native.Nat.{ℕ, zero, suc, _-_, _*_, _^_, _≤_, _<_}
+use native.Mathlib.Nat.{mul-le-mul-right, mul-assoc}
+use native.Mathlib.Omega.{arith}
+use borrow.Author.Tests.{le-leb, lt-leb}
+use lib.Dec.{ltb}
+use lib.ListN.{getD}
+use lib.IntN.{ℤ, pos, negsuc, negℤ, _-ℤ_, +ℤ-idl}
+use lib.Signed.{mag}
+use mir.Syntax.{w16}
+use mir.Val.{SFits, toZ}
+use mir.Facts.{toZ-pos}
+use Rattle.spec.specs.Words.{tab}
+use Rattle.spec.specs.Recipe.{Recipe, gain}
+use Rattle.spec.specs.Picture.{Picture}
+use Rattle.spec.specs.Gray.{gray, nearest, nearestDifference, sameSum, difference}
+use Rattle.laws.proofs.Lists.{tab-agree}
+use Rattle.rounding.proofs.Dividing.{nearest-gray}
+
+-- the nearest whole number of (x - y) over the weight, where that is not negative and where it is
+module _ (x y weight : ℕ) where
+  abbrev either : Bool → ℤ
+  either b = cond b (pos (nearest (x - y) weight)) (negℤ (pos (nearest (y - x) weight)))
+
+  pub not-negative : y ≤ x → pos (gray weight (x - y)) ≡ nearestDifference x y weight
+  unfolding nearestDifference
+  not-negative h = sym (ap either (le-leb y x h) ∙ ap pos (nearest-gray (x - y) weight))
+
+  pub negative : x < y → negℤ (pos (gray weight (y - x))) ≡ nearestDifference x y weight
+  unfolding nearestDifference
+  negative h = sym (ap either (lt-leb y x h) ∙ ap (λ n. negℤ (pos n)) (nearest-gray (y - x) weight))
+
+-- a byte in 16 bits, its negation, and the difference of two
+pub byte-is : (n : ℕ) → n ≤ 255 → toZ w16 n ≡ pos n
+byte-is n h = toZ-pos w16 (omega arith)
+
+pub negated-is : (n : ℕ) → n ≤ 255 → pos 0 -ℤ toZ w16 n ≡ negℤ (pos n)
+negated-is n h = ap (λ z. pos 0 -ℤ z) (byte-is n h) ∙ +ℤ-idl (negℤ (pos n))
+
+pub apart-fits : (m n : ℕ) → m ≤ 255 → n ≤ 255 → SFits w16 (toZ w16 m -ℤ toZ w16 n)
+apart-fits m n g h = subst (SFits w16) (sym (ap₂ _-ℤ_ (byte-is m g) (byte-is n h))) (record { sfits = small m n g h })
+  where
+    small : (m n : ℕ) → m ≤ 255 → n ≤ 255 → mag (pos m -ℤ pos n) < 2 ^ 15
+    small m zero g h = omega arith
+    small m (suc n) g h = go (ltb m (suc n))
+      where
+        go : (b : Bool) → mag (cond b (negsuc (suc n - suc m)) (pos (m - suc n))) < 2 ^ 15
+        go true = omega arith
+        go false = omega arith
+
+-- a sum of at most 255 times its own weight, times the other weight
+pub times-other : (own other s : ℕ) → s ≤ 255 * own → s * other ≤ 255 * (own * other)
+times-other own other s h = omega (arith, mul-le-mul-right other h, mul-assoc 255 own other)
+
+-- two rows of the sums that are taken, as a row of differences
+pub row-of-differences : (a b : Recipe) (p : Picture) (j : ℕ) (xs ys : List ℕ) (u v m : ℕ) → u ≡ gain a → v ≡ gain b → m ≡ p .width
+    → ((i : ℕ) → i < p .width → getD xs i 0 ≡ sameSum a p i j) → ((i : ℕ) → i < p .width → getD ys i 0 ≡ sameSum b p i j)
+    → tab m (λ k. nearestDifference (getD xs k 0 * v) (getD ys k 0 * u) (u * v)) ≡ tab (p .width) (λ i. difference a b p i j)
+unfolding difference
+row-of-differences a b p j xs ys u v m e f many first second =
+    ap (λ n. tab n (λ k. nearestDifference (getD xs k 0 * v) (getD ys k 0 * u) (u * v))) many
+    ∙ tab-agree (p .width) (λ k. nearestDifference (getD xs k 0 * v) (getD ys k 0 * u) (u * v)) (λ i. difference a b p i j)
+    (λ i h.
+    ap₂ (λ x y. nearestDifference (x * v) (y * u) (u * v)) (first i h) (second i h)
+    ∙ ap₂ (λ x y. nearestDifference (sameSum a p i j * y) (sameSum b p i j * x) (x * y)) e f)

@@ -1,6 +1,0 @@
-pub mod Dividing
-pub mod Grays
-pub mod Taking
-pub mod Answering
-pub mod Parts
-pub mod Differences
