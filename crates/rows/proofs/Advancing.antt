@@ -1,25 +1,25 @@
 -- The call `advance` by cases, the next grown row by it, and the grown rows that the call `skip` passes over.
 -- Assumes nothing.
 use mathlib.Core.Path.{_≡_, refl, sym, ap, subst, _∙_}
-use mathlib.Core.Bool.{Bool, cond}
+use mathlib.Core.Bool.{Bool, true, false, cond}
 use mathlib.Core.List.{List, []}
 use Prim.Native.Nat.{ℕ, zero, suc, _+_, _*_, _≤_, _<_}
 use native.Mathlib.Nat.{mul-comm}
 use native.Mathlib.Decide.{decLt}
 use native.Mathlib.Omega.{arith}
-use lib.Dec.{leb}
+use lib.Dec.{leb, ltb}
 use lib.ListN.{length, take, drop}
 use borrow.Author.Tests.{lt-ltb, le-ltb, le-leb}
 use Rattle.spec.specs.declared.Filter.{Filter}
 use Rattle.spec.specs.Recipe.{recipe}
 use Rattle.spec.specs.Picture.{picture, exact, fullWidth, fullHeight, fullRow}
-use Rattle.spec.specs.Refusals.{first, startChecks}
+use Rattle.spec.specs.Refusals.{Check, first, either, lent, startChecks}
 use Rattle.laws.proofs.Lists.{length-tab, part-within}
 use Rattle.laws.proofs.Numbers.{row-fits}
 use Rattle.stream.specs.declared.calls.State.{State}
 use Rattle.stream.specs.declared.calls.Started.{Started}
 use Rattle.stream.specs.declared.calls.Stepped.{Stepped}
-use Rattle.stream.specs.Calls.{began, start, Called, called, push, drain}
+use Rattle.stream.specs.Calls.{began, start, Called, called, answers, steps, push, drain}
 use Rattle.rows.specs.Runs.{answerOf, pictureRow}
 use Rattle.rows.specs.OnePass.{Bytes}
 use Rattle.rows.specs.Streaming.{Streamed, Due, Came, pictureOf}
@@ -68,6 +68,47 @@ module _ (s : State) (pixels out cells : List ℕ) where
   unfolding skip called
   skip-more n m e r row held a =
       ap (λ k. skip k s pixels out cells) e ∙ ap (λ (x : Called). skip m (x .state) pixels (x .out) (x .cells)) (sym a)
+
+-- what a call leaves, but for its number and count
+left : Called → Skipped
+left a = record { state = a .state; row = a .out; cells = a .cells }
+
+either-stopped : (n : ℕ) (a b : Called) (x : Skipped) → a .number ≡ 0 → left b ≡ x → (either n a b .number ≡ 0 → ⊥) → left (either n a b) ≡ x
+unfolding either
+either-stopped zero a b x p q h = absurd (h p)
+either-stopped (suc n) a b x p q h = q
+
+-- a call that is refused leaves all as it was
+answer-stopped : (cs : List Check) (s : State) (pixels out cells : List ℕ) → (answers cs s pixels out cells .number ≡ 0 → ⊥)
+    → left (answers cs s pixels out cells) ≡ skipped s out cells
+unfolding answers lent steps left skipped
+answer-stopped cs s pixels out cells h = either-stopped (first cs) _ _ (skipped s out cells) refl refl h
+
+advance-stopped : (s : State) (pixels out cells : List ℕ) → (advance s pixels out cells .number ≡ 0 → ⊥)
+    → left (advance s pixels out cells) ≡ skipped s out cells
+unfolding advance push drain
+advance-stopped s pixels out cells h = by (ltb (s .emitted) (s .height)) h
+  where
+    by : (b : Bool) → (cond b (push s (rowAt pixels (s .width) (s .emitted)) out cells) (drain s out cells) .number ≡ 0 → ⊥)
+        → left (cond b (push s (rowAt pixels (s .width) (s .emitted)) out cells) (drain s out cells)) ≡ skipped s out cells
+    by true g = answer-stopped _ s _ out cells g
+    by false g = answer-stopped _ s _ out cells g
+
+-- and so does every further one
+skip-stopped : (n : ℕ) (s : State) (pixels out cells : List ℕ) → (advance s pixels out cells .number ≡ 0 → ⊥)
+    → skip n s pixels out cells ≡ skipped s out cells
+unfolding skip left skipped
+skip-stopped zero s pixels out cells h = refl
+skip-stopped (suc n) s pixels out cells h =
+    ap (λ (x : Skipped). skip n (x .state) pixels (x .row) (x .cells)) (advance-stopped s pixels out cells h)
+    ∙ skip-stopped n s pixels out cells h
+
+pub skip-refused : (n : ℕ) (s : State) (pixels out cells : List ℕ) (r : Stepped) (row held : List ℕ)
+    → called r row held ≡ advance s pixels out cells → (r .refusal ≡ 0 → ⊥) → skipped (r .state) row held ≡ skip n s pixels out cells
+unfolding called left skipped
+skip-refused n s pixels out cells r row held e h =
+    let refused : (advance s pixels out cells .number ≡ 0 → ⊥) = λ z. h (ap (λ (x : Called). x .number) e ∙ z) in
+    ap left e ∙ advance-stopped s pixels out cells refused ∙ sym (skip-stopped n s pixels out cells refused)
 
 -- the next grown row, in the words of those that drive the one pass
 module _ (f : Filter) (w h : ℕ) (pixels : List ℕ) (size : length pixels ≡ w * h) (small : Bytes (picture w h pixels)) where

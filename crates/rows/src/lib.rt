@@ -40,13 +40,17 @@ pub fn advance(state: State, pixels: &[u8], out: &mut [u64], cells: &mut [u64]) 
 }
 
 // Passes over as many grown rows as `count` says, each as by `advance`; the last of them stands in `row`.
-// A call that is refused changes nothing.
+// It stops where a call is refused: that changes nothing, and so would every further one.
 pub fn skip(state: State, count: usize, pixels: &[u8], row: &mut [u64], cells: &mut [u64]) -> State
     ensures { λ r. ⌜ skipped r (now (row .exit)) (now (cells .exit)) ≡ skipOf count state (now (pixels .entry)) (now (row .entry)) (now (cells .entry)) ⌝ }
 {
     let mut at = state;
     for k in 0..count {
-        at = advance(at, pixels, row, cells).state;
+        let next = advance(at, pixels, row, cells);
+        if next.refusal != 0 {
+            return next.state;
+        }
+        at = next.state;
     }
     at
 }

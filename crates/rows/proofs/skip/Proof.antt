@@ -7,7 +7,7 @@ use native.Mathlib.Omega.{arith}
 use borrow.Author.Needs.{needs}
 use lib.ListN.{length}
 use Rattle.rows.specs.Advance.{skip}
-use Rattle.rows.proofs.Advancing.{skip-more}
+use Rattle.rows.proofs.Advancing.{skip-more, skip-refused}
 use Rattle.rows.proofs.skip.Statement.{statement}
 use Rattle.rows.proofs.skip.Tie as tie
 
@@ -27,25 +27,6 @@ loop-holds c =
 advance-requires : tie.Need-advance-requires Inv-loop μ-loop
 advance-requires c κs = search needs
 
-add-k : tie.Need-add-k Inv-loop μ-loop
-add-k c = omega (arith, c .before .before .before .before .before .before .before .before .loop-test .taken, c .before .before .before .before .before .before .before .before .before .before .before .before .before .fits .count)
-
-loop-less : tie.Need-loop-less Inv-loop μ-loop
-loop-less c = search needs
-
-loop-again : tie.Need-loop-again Inv-loop μ-loop
-loop-again c =
-    let turn = c .before .before .before .before .before .before .before .before .before .loop in
-    let a = c .before .before .before .before .before .before .before .before .before .before .before .before .before .args in
-    let below = c .before .before .before .before .before .before .before .before .loop-test .taken in
-    let called = c .before .before .before .before .before .advance in
-    let one : a .count - turn .k ≡ suc (a .count - (turn .k + 1)) = omega (arith, below) in (
-      omega (arith, below),
-      search needs,
-      search needs,
-      sym (skip-more (turn .at) (a .pixels .now) (turn .row) (turn .cells) _ _ one (called .result) _ _ (called .ensures)) ∙ turn .inv .3,
-    )
-
 same-length : tie.Need-same-length Inv-loop μ-loop
 same-length c = search needs
 
@@ -53,8 +34,41 @@ same-length-2 : tie.Need-same-length-2 Inv-loop μ-loop
 same-length-2 c = search needs
 
 returns : tie.Need-returns Inv-loop μ-loop
-unfolding skip
 returns c =
+    let called = c .before .before .before .before .before .before .before .advance in
+    let turn = c .before .before .before .before .before .before .before .before .before .before .before .loop in
+    let a = c .before .before .before .before .before .before .before .before .before .before .before .before .before .before .before .args in
+    skip-refused (a .count - turn .k) (turn .at) (a .pixels .now) (turn .row) (turn .cells) (called .result) _ _ (called .ensures) (c .before .if1 .taken)
+    ∙ turn .inv .3
+
+add-k : tie.Need-add-k Inv-loop μ-loop
+add-k c = omega (arith, c .before .before .before .before .before .before .before .before .before .before .loop-test .taken, c .before .before .before .before .before .before .before .before .before .before .before .before .before .before .before .fits .count)
+
+loop-less : tie.Need-loop-less Inv-loop μ-loop
+loop-less c = search needs
+
+loop-again : tie.Need-loop-again Inv-loop μ-loop
+loop-again c =
+    let turn = c .before .before .before .before .before .before .before .before .before .before .before .loop in
+    let a = c .before .before .before .before .before .before .before .before .before .before .before .before .before .before .before .args in
+    let below = c .before .before .before .before .before .before .before .before .before .before .loop-test .taken in
+    let called = c .before .before .before .before .before .before .before .advance in
+    let one : a .count - turn .k ≡ suc (a .count - (turn .k + 1)) = omega (arith, below) in (
+      omega (arith, below),
+      search needs,
+      search needs,
+      sym (skip-more (turn .at) (a .pixels .now) (turn .row) (turn .cells) _ _ one (called .result) _ _ (called .ensures)) ∙ turn .inv .3,
+    )
+
+same-length-3 : tie.Need-same-length-3 Inv-loop μ-loop
+same-length-3 c = search needs
+
+same-length-4 : tie.Need-same-length-4 Inv-loop μ-loop
+same-length-4 c = search needs
+
+returns-2 : tie.Need-returns-2 Inv-loop μ-loop
+unfolding skip
+returns-2 c =
     let turn = c .before .loop in
     let a = c .before .before .before .before .before .args in
     let none : a .count - turn .k ≡ 0 = omega (arith, turn .inv .0, c .loop-test .left) in
@@ -68,9 +82,12 @@ skip-spec =
     μ-loop
     loop-holds
     advance-requires
+    same-length
+    same-length-2
+    returns
     add-k
     loop-less
     loop-again
-    same-length
-    same-length-2
-    returns)
+    same-length-3
+    same-length-4
+    returns-2)
