@@ -1,7 +1,7 @@
 -- `rows::skip` meets its contract: what is left to pass over, from where it stands, leads where the whole does.
 -- Assumes nothing.
 use mathlib.Core.Path.{_≡_, sym, ap, _∙_}
-use Prim.Native.Nat.{suc, _+_, _-_, _≤_}
+use Prim.Native.Nat.{suc, _+_, _-_}
 use native.Mathlib.Nat.{sub-zero}
 use native.Mathlib.Omega.{arith}
 use borrow.Author.Needs.{needs}
@@ -13,8 +13,7 @@ use Rattle.rows.proofs.skip.Tie as tie
 
 abbrev Inv-loop : tie.InvT-loop
 Inv-loop count pixels row₀ cells₀ at₀ k₀ row cells at k =
-    (k ≤ count) × (length row ≡ length row₀) × (length cells ≡ length cells₀)
-    × (skip (count - k) at pixels row cells ≡ skip count at₀ pixels row₀ cells₀)
+    (length row ≡ length row₀) × (length cells ≡ length cells₀) × (skip (count - k) at pixels row cells ≡ skip count at₀ pixels row₀ cells₀)
 
 abbrev μ-loop : tie.MeasureT-loop
 μ-loop count pixels row₀ cells₀ at₀ k₀ row cells at k = count - k
@@ -22,7 +21,7 @@ abbrev μ-loop : tie.MeasureT-loop
 loop-holds : tie.Need-loop-holds Inv-loop μ-loop
 loop-holds c =
     let a = c .before .before .before .args in
-    (omega arith, search needs, search needs, ap (λ n. skip n (a .state) (a .pixels .now) (a .row .now) (a .cells .now)) (sub-zero (a .count)))
+    (search needs, search needs, ap (λ n. skip n (a .state) (a .pixels .now) (a .row .now) (a .cells .now)) (sub-zero (a .count)))
 
 advance-requires : tie.Need-advance-requires Inv-loop μ-loop
 advance-requires c κs = search needs
@@ -40,10 +39,9 @@ loop-again c =
     let below = c .before .before .before .before .before .before .before .before .loop-test .taken in
     let called = c .before .before .before .before .before .advance in
     let one : a .count - turn .k ≡ suc (a .count - (turn .k + 1)) = omega (arith, below) in (
-      omega (arith, below),
       search needs,
       search needs,
-      sym (skip-more (turn .at) (a .pixels .now) (turn .row) (turn .cells) _ _ one (called .result) _ _ (called .ensures)) ∙ turn .inv .3,
+      sym (skip-more (turn .at) (a .pixels .now) (turn .row) (turn .cells) _ _ one (called .result) _ _ (called .ensures)) ∙ turn .inv .2,
     )
 
 same-length : tie.Need-same-length Inv-loop μ-loop
@@ -57,8 +55,8 @@ unfolding skip
 returns c =
     let turn = c .before .loop in
     let a = c .before .before .before .before .before .args in
-    let none : a .count - turn .k ≡ 0 = omega (arith, turn .inv .0, c .loop-test .left) in
-    sym (ap (λ n. skip n (turn .at) (a .pixels .now) (turn .row) (turn .cells)) none) ∙ turn .inv .3
+    let none : a .count - turn .k ≡ 0 = omega (arith, c .loop-test .left) in
+    sym (ap (λ n. skip n (turn .at) (a .pixels .now) (turn .row) (turn .cells)) none) ∙ turn .inv .2
 
 pub skip-spec : {M : Type 1} → statement M
 skip-spec =
