@@ -281,9 +281,9 @@ fn sized(
         cells: cells.len(),
     };
     let plan = planned(a.known, b.known, given);
-    let number = plan.refusal;
-    if number != 0 {
-        return number;
+    let refusal = plan.refusal;
+    if refusal != 0 {
+        return refusal;
     }
     // 1,024 + 255, the widest grown row
     let mut a_row = [0u64; 1279];

@@ -48,7 +48,7 @@ pub fn rounded(sum: u64, by: Divisor) -> u64
 pub fn round_row(by: Divisor, sums: &[u64], out: &mut [u8]) -> u8
     ensures { λ r. ⌜ RowRounded by (now (sums .entry)) (now (out .entry)) r (now (out .exit)) ⌝ }
 {
-    if out.len() != sums.len() {
+    if sums.len() != out.len() {
         return 7;
     }
     for k in 0..out.len() {

@@ -1,6 +1,6 @@
 -- `rounding::round_row` meets its contract: other lengths are refused, and otherwise the bytes are written from the left.
 -- Assumes nothing.
-use mathlib.Core.Path.{_≡_, ap}
+use mathlib.Core.Path.{_≡_, sym, ap}
 use Prim.Native.Nat.{ℕ, _-_, _%_, _≤_}
 use mathlib.Core.List.{List}
 use borrow.Author.Needs.{needs}
@@ -24,7 +24,7 @@ abbrev μ-loop : tie.MeasureT-loop
 μ-loop by sums out₀ k₀ k-end out k = k-end - k
 
 returns : tie.Need-returns Inv-loop μ-loop
-returns c = row-refused _ _ _ (c .if1 .taken)
+returns c = row-refused _ _ _ (λ e. c .if1 .taken (sym e))
 
 loop-holds : tie.Need-loop-holds Inv-loop μ-loop
 loop-holds c =
@@ -69,7 +69,7 @@ returns-2 : tie.Need-returns-2 Inv-loop μ-loop
 returns-2 c =
     let turn = c .before .loop in
     let a = c .before .before .before .before .before .args in
-    row-all (a .by) (a .sums .now) (a .out .now) _ (c .before .before .if1 .left)
+    row-all (a .by) (a .sums .now) (a .out .now) _ (sym (c .before .before .if1 .left))
     (rightwards-all (made (a .by) (a .sums .now)) (a .out .now) (turn .inv .3) (search needs))
 
 pub round-row-spec : {M : Type 1} → statement M

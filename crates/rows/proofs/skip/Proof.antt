@@ -13,7 +13,7 @@ use Rattle.rows.proofs.skip.Tie as tie
 
 abbrev Inv-loop : tie.InvT-loop
 Inv-loop count pixels row₀ cells₀ at₀ k₀ row cells at k =
-    (k ≤ count) × (length row ≡ length row₀) × (length cells ≡ length cells₀)
+    (length row ≡ length row₀) × (length cells ≡ length cells₀)
     × (skip (count - k) at pixels row cells ≡ skip count at₀ pixels row₀ cells₀)
 
 abbrev μ-loop : tie.MeasureT-loop
@@ -22,7 +22,7 @@ abbrev μ-loop : tie.MeasureT-loop
 loop-holds : tie.Need-loop-holds Inv-loop μ-loop
 loop-holds c =
     let a = c .before .before .before .args in
-    (omega arith, search needs, search needs, ap (λ n. skip n (a .state) (a .pixels .now) (a .row .now) (a .cells .now)) (sub-zero (a .count)))
+    (search needs, search needs, ap (λ n. skip n (a .state) (a .pixels .now) (a .row .now) (a .cells .now)) (sub-zero (a .count)))
 
 advance-requires : tie.Need-advance-requires Inv-loop μ-loop
 advance-requires c κs = search needs
@@ -39,7 +39,7 @@ returns c =
     let turn = c .before .before .before .before .before .before .before .before .before .before .before .loop in
     let a = c .before .before .before .before .before .before .before .before .before .before .before .before .before .before .before .args in
     skip-refused (a .count - turn .k) (turn .at) (a .pixels .now) (turn .row) (turn .cells) (called .result) _ _ (called .ensures) (c .before .if1 .taken)
-    ∙ turn .inv .3
+    ∙ turn .inv .2
 
 add-k : tie.Need-add-k Inv-loop μ-loop
 add-k c = omega (arith, c .before .before .before .before .before .before .before .before .before .before .loop-test .taken, c .before .before .before .before .before .before .before .before .before .before .before .before .before .before .before .fits .count)
@@ -54,10 +54,9 @@ loop-again c =
     let below = c .before .before .before .before .before .before .before .before .before .before .loop-test .taken in
     let called = c .before .before .before .before .before .before .before .advance in
     let one : a .count - turn .k ≡ suc (a .count - (turn .k + 1)) = omega (arith, below) in (
-      omega (arith, below),
       search needs,
       search needs,
-      sym (skip-more (turn .at) (a .pixels .now) (turn .row) (turn .cells) _ _ one (called .result) _ _ (called .ensures)) ∙ turn .inv .3,
+      sym (skip-more (turn .at) (a .pixels .now) (turn .row) (turn .cells) _ _ one (called .result) _ _ (called .ensures)) ∙ turn .inv .2,
     )
 
 same-length-3 : tie.Need-same-length-3 Inv-loop μ-loop
@@ -71,8 +70,8 @@ unfolding skip
 returns-2 c =
     let turn = c .before .loop in
     let a = c .before .before .before .before .before .args in
-    let none : a .count - turn .k ≡ 0 = omega (arith, turn .inv .0, c .loop-test .left) in
-    sym (ap (λ n. skip n (turn .at) (a .pixels .now) (turn .row) (turn .cells)) none) ∙ turn .inv .3
+    let none : a .count - turn .k ≡ 0 = omega (arith, c .loop-test .left) in
+    sym (ap (λ n. skip n (turn .at) (a .pixels .now) (turn .row) (turn .cells)) none) ∙ turn .inv .2
 
 pub skip-spec : {M : Type 1} → statement M
 skip-spec =

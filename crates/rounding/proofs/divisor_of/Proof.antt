@@ -1,0 +1,11 @@
+-- `rounding::divisor_of` meets its contract, field by field.
+-- Assumes nothing.
+use borrow.Author.Needs.{needs}
+use Rattle.rounding.proofs.divisor_of.Statement.{statement}
+use Rattle.rounding.proofs.divisor_of.Tie as tie
+
+returns : tie.Need-returns
+returns c = search needs
+
+pub divisor-of-spec : {M : Type 1} → statement M
+divisor-of-spec = tie.close (tie.spec returns)
