@@ -5,12 +5,12 @@ ghost use Prim.Native.Nat.{_*_};
 ghost use lib.ListN.{length};
 ghost use Rattle.spec.specs.Recipe.{recipe, gain};
 ghost use Rattle.spec.specs.Picture.{picture, fullWidth};
-ghost use Rattle.spec.specs.Gray.{places, sameGray};
+ghost use Rattle.spec.specs.Gray.{grays, places, sameGray};
 ghost use Rattle.spec.specs.Refusals.{first, sizeChecks, pictureChecks, fullSize};
 ghost use Rattle.filter.proofs.Refusal.{Known};
 ghost use Rattle.rows.specs.Streaming.{pictureOf};
 ghost use Rattle.rows.specs.Taking.{Taken};
-ghost use Rattle.rounding.specs.Division.{divisor};
+ghost use Rattle.rounding.specs.Division.{Divides, Bounded};
 ghost use Rattle.blur.specs.Written.{Blurred};
 use filter::FullSize;
 use filter::Measures;
@@ -18,12 +18,22 @@ use filter::full_size;
 use filter::measure;
 use rounding::Divisor;
 use rounding::divisor_of;
-use rounding::round_row;
+use rounding::rounded;
 use rows::advance;
 use rows::skip;
 use spec::Filter;
 use stream::State;
 use stream::start;
+
+// The greys of a row of sums.
+fn round_row(by: Divisor, sums: &[u64], out: &mut [u8])
+    requires { ⌜ Divides (by .weight) by × Bounded (by .weight) (now sums) × (length (now sums) ≡ length (now out)) ⌝ }
+    ensures { λ r. ⌜ now (out .exit) ≡ grays (by .weight) (now (sums .entry)) ⌝ }
+{
+    for k in 0..out.len() {
+        out[k] = rounded(sums[k], by) as u8;
+    }
+}
 
 // The greys of all picture rows, from a state whose next grown row is the first that is taken; `left` is
 // the first grown column that is.
@@ -36,7 +46,7 @@ fn gray_rows(
     out: &mut [u8],
     cells: &mut [u64],
 )
-    requires { ⌜ Taken state left (now pixels) (now row) (now cells) × (by ≡ divisor (gain (recipe (state .filter))))
+    requires { ⌜ Taken state left (now pixels) (now row) (now cells) × Divides (gain (recipe (state .filter))) by
         × (length (now out) ≡ state .width * state .height) ⌝ }
     ensures { λ r. let p = pictureOf state (now (pixels .entry)) in
         ⌜ now (out .exit) ≡ places p (sameGray (recipe (state .filter)) p) ⌝ }

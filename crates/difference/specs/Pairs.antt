@@ -2,7 +2,7 @@
 use mathlib.Core.Path.{_≡_}
 use mathlib.Core.Bool.{_||_}
 use mathlib.Core.List.{List, [], _∷_}
-use Prim.Native.Nat.{ℕ, _+_, _*_, _^_, _≤_, _<_}
+use Prim.Native.Nat.{ℕ, _+_, _*_, _^_, _≤_}
 use lib.Dec.{ltb}
 use lib.ListN.{length, take, drop}
 use Rattle.spec.specs.Recipe.{recipe, gain}
@@ -17,15 +17,8 @@ use Rattle.difference.specs.declared.Places.{Places}
 use Rattle.difference.specs.declared.Operand.{Operand}
 use Rattle.difference.specs.declared.Given.{Given}
 use Rattle.difference.specs.declared.Plan.{Plan}
-use Rattle.rounding.specs.declared.Divisor.{Divisor}
-use Rattle.rounding.specs.Division.{divisor}
+use Rattle.rounding.specs.Division.{Divides}
 use Rattle.rows.specs.Taking.{Taken}
-
--- what is kept to divide by a weight, which is not 0 and at most 2^44
-pub record Divides (weight : ℕ) (by : Divisor) : Type 0 where
-  pub notZero : 0 < weight
-  pub light : weight ≤ 2 ^ 44
-  pub is : by ≡ divisor weight
 
 -- Both one passes of the same picture stand before the first row that is taken, each with its own part of the cells.
 pub record BothTaken (pair : Pair) (weights : Weights) (places : Places) (pixels aRow bRow cells : List ℕ) : Type 0 where

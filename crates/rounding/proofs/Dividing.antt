@@ -1,7 +1,7 @@
 -- Rounding: that a shift divides by a weight with a single bit set, so that a quotient over an accepted weight is the grey, how large that
 -- is, and that the nearest whole number is rounded alike.
 -- Assumes nothing.
-use mathlib.Core.Path.{_≡_, refl, sym, ap, _∙_}
+use mathlib.Core.Path.{_≡_, refl, sym, ap, subst, _∙_}
 use mathlib.Core.Bool.{Bool, true, false, cond}
 use Prim.Native.Nat.{ℕ, zero, suc, _+_, _*_, _/_, _%_, _^_, _≤_, _<_}
 use native.Mathlib.Nat.{mod-eq-of-lt, mul-le-mul, suc-mul, div-lt-iff-lt-mul, div-div-eq-div-mul, pow-zero, pow-suc, le-of-suc-le-suc}
@@ -10,7 +10,8 @@ use borrow.Author.Tests.{eqb-true}
 use lib.Dec.{eqb}
 use lib.Count.{ones, ones-step, trailingZeros, under}
 use Rattle.spec.specs.Gray.{gray, nearest}
-use Rattle.rounding.specs.Division.{divisor, quotient}
+use Rattle.rounding.specs.Division.{divisor, quotient, Divides}
+use Rattle.rounding.specs.declared.Divisor.{Divisor}
 
 -- a number below 2^k with no bit set
 no-bit : (k n : ℕ) → n < 2 ^ k → ones n ≡ 0 → n ≡ 0
@@ -65,6 +66,20 @@ module _ (most w s : ℕ) (positive : 0 < w) (light : w ≤ 2 ^ 44) (few : most 
   pub gray-most : gray w s ≤ most
   unfolding gray
   gray-most = le-of-suc-le-suc (div-lt-iff-lt-mul positive .1 (omega (arith, suc-mul most w)))
+
+-- what divides by a weight has that weight
+pub own-weight : (w : ℕ) (by : Divisor) → Divides w by → by .weight ≡ w
+own-weight w by d = ap (λ (x : Divisor). x .weight) (d .is)
+
+pub divides-own : (w : ℕ) (by : Divisor) → Divides w by → Divides (by .weight) by
+divides-own w by d = subst (λ v. Divides v by) (sym (own-weight w by d)) d
+
+-- a quotient that is a byte's grey
+pub rounded-gray : (w : ℕ) (by : Divisor) → Divides w by → (s q : ℕ) → s ≤ 255 * w → q ≡ quotient by s → (q ≡ gray w s) × (q ≤ 255)
+rounded-gray w by d s q bounded e =
+    let few : 255 ≤ 65535 = omega arith in
+    let is = e ∙ ap (λ (x : Divisor). quotient x s) (d .is) ∙ quotient-gray 255 w s (d .notZero) (d .light) few bounded in
+    (is, subst (λ x. x ≤ 255) (sym is) (gray-most 255 w s (d .notZero) (d .light) few bounded))
 
 -- the nearest whole number, a half upwards, is rounded as a grey is
 pub nearest-gray : (m d : ℕ) → nearest m d ≡ gray d m

@@ -1,10 +1,12 @@
 // Document 01's rounding: a sum over the weight, and a row of sums.
 ghost use mathlib.Core.Path.{_≡_};
 ghost use lib.Dec.{ltb};
+ghost use lib.ListN.{length};
 ghost use Rattle.spec.specs.Words.{somewhere};
 ghost use Rattle.spec.specs.Recipe.{recipe};
-ghost use Rattle.rounding.specs.Division.{divisor, quotient};
-ghost use Rattle.rounding.specs.Rounded.{Rounded, RowRounded};
+ghost use Rattle.spec.specs.Gray.{grays};
+ghost use Rattle.rounding.specs.Division.{divisor, quotient, Divides, Bounded};
+ghost use Rattle.rounding.specs.Rounded.{Rounded};
 use filter::measure;
 use spec::Filter;
 use std::num::wrapping_add_u64;
@@ -44,17 +46,14 @@ pub fn rounded(sum: u64, by: Divisor) -> u64
     }
 }
 
-// The lowest byte of each sum's quotient, which is its grey where that is at most 255: refused by 7.
-pub fn round_row(by: Divisor, sums: &[u64], out: &mut [u8]) -> u8
-    ensures { λ r. ⌜ RowRounded by (now (sums .entry)) (now (out .entry)) r (now (out .exit)) ⌝ }
+// The greys of a row of sums.
+fn round_row(by: Divisor, sums: &[u64], out: &mut [u8])
+    requires { ⌜ Divides (by .weight) by × Bounded (by .weight) (now sums) × (length (now sums) ≡ length (now out)) ⌝ }
+    ensures { λ r. ⌜ now (out .exit) ≡ grays (by .weight) (now (sums .entry)) ⌝ }
 {
-    if sums.len() != out.len() {
-        return 7;
-    }
     for k in 0..out.len() {
-        out[k] = (rounded(sums[k], by) % 256) as u8;
+        out[k] = rounded(sums[k], by) as u8;
     }
-    0
 }
 
 // Whether a sum is above a limit.
@@ -85,5 +84,6 @@ pub fn round(filter: Filter, sums: &[u64], out: &mut [u8]) -> u8
     if over(255 * m.gain, sums) {
         return 11;
     }
-    round_row(divisor_of(m.gain), sums, out)
+    round_row(divisor_of(m.gain), sums, out);
+    0
 }

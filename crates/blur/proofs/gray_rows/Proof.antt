@@ -6,15 +6,15 @@ use native.Mathlib.Nat.{mul-comm, mul-le-mul, zero-add, zero-mul, suc-mul}
 use native.Mathlib.Omega.{arith}
 use borrow.Author.Needs.{needs}
 use lib.ListN.{length, getD, take, drop}
-use Rattle.spec.specs.Recipe.{recipe, order, gain}
+use Rattle.spec.specs.Recipe.{recipe, order}
 use Rattle.spec.specs.Picture.{fullWidth, fullHeight, fullRow}
-use Rattle.spec.specs.Gray.{places, sameRow, sameGray}
+use Rattle.spec.specs.Gray.{grays, places, sameRow, sameGray}
 use Rattle.laws.proofs.Numbers.{row-fits}
 use Rattle.laws.proofs.Slices.{Mixed, mixed-none, mixed-all, length-mixed, length-lent}
 use Rattle.laws.proofs.Refusals.{grown-most}
 use Rattle.laws.proofs.Rows.{length-rows, rows-more}
 use Rattle.rounding.specs.Division.{Bounded}
-use Rattle.rounding.proofs.Grays.{row-grays}
+use Rattle.rounding.proofs.Dividing.{own-weight, divides-own}
 use Rattle.rows.specs.Streaming.{Streamed, pictureOf}
 use Rattle.rows.proofs.Advancing.{next-row}
 use Rattle.rows.proofs.Taking.{long, taken-length, taken-bounded, taken-grays}
@@ -129,7 +129,20 @@ part-round-row-end-2 : tie.Need-part-round-row-end-2 Inv-loop μ-loop
 part-round-row-end-2 c = inside (c .before .before .before .before .before .before .before .before .before .before)
 
 round-row-requires : tie.Need-round-row-requires Inv-loop μ-loop
-round-row-requires c κs = search needs
+round-row-requires c κs =
+    let start = c .before .before .before .before .before .before .before .before .before .before .before .before .before .before .before .before .before in
+    let row = c .before .before .before .before .before .before .before .before in
+    let s = start .args .state in
+    let p = pictureOf s (start .args .pixels .now) in
+    let r = recipe (s .filter) in
+    let left = start .args .left in
+    let half = start .pre .0 .half in
+    let d = start .pre .1 in
+    let many : left + s .width - left ≡ s .width = omega arith in (
+      divides-own _ _ d,
+      subst (λ w. Bounded w (take (left + s .width - left) (drop left (row .advance .last .1 .1 .0)))) (sym (own-weight _ _ d)) (taken-bounded r p _ _ (came row .1) left _ half many (bytes (c .before .before .before .before .before .before .before .before .before .before .before .before .before .before .before .before))),
+      taken-length r p _ _ (came row .1) left _ half many ∙ sym (length-lent (c .before .before .before .before .before .before .before .before .before .before .before .before .loop .from) (s .width) (c .before .before .before .before .before .before .before .before .before .before .before .before .loop .out) (inside (c .before .before .before .before .before .before .before .before .before .before .before))),
+    )
 
 add-j : tie.Need-add-j Inv-loop μ-loop
 add-j c = search needs
@@ -150,17 +163,14 @@ loop-again c =
     let from = turn .loop .from in
     let left = start .args .left in
     let next = c .before .before .before .before .before .before .before .before .before .before .before in
-    let ok = start .pre .0 .picture .recipe in
-    let half = start .pre .0 .half in
     let below : j < s .height = omega (arith, test .loop-test .taken, turn .loop .inv .0) in
     let follows : sameRow r j + 1 ≡ sameRow r (j + 1) = omega arith in
     let many : left + s .width - left ≡ s .width = omega arith in
     let row = next .advance .last .1 .1 .0 in
-    let small : Bounded (gain r) (take (left + s .width - left) (drop left row)) = taken-bounded r p j row (came next .1) left _ half many (bytes (turn .before .before .before .before)) in
-    let lengths = length-lent from (s .width) (turn .loop .out) (inside test) ∙ sym (taken-length r p j row (came next .1) left _ half many) in
     let made =
-    row-grays (gain r) (ok .notZero) (ok .light) (start .args .by) (start .pre .1) _ _ small lengths _ _ (c .before .before .round-row .ensures)
-    ∙ taken-grays r p j row (came next .1) left _ half many in
+    c .before .before .round-row .ensures
+    ∙ ap (λ w. grays w (take (left + s .width - left) (drop left row))) (own-weight _ _ (start .pre .1))
+    ∙ taken-grays r p j row (came next .1) left _ (start .pre .0 .half) many in
     let written =
     rows-more (s .width) (s .height) (λ j i. sameGray r p i j) 0 j from _ (turn .loop .inv .7) (turn .loop .inv .2) below (omega (arith, inside test, turn .loop .inv .4)) made in (
       turn .loop .inv .0,

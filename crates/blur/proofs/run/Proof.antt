@@ -1,6 +1,6 @@
 -- `blur::run` meets its contract: the one pass is started and the grown rows above are passed over, then come the greys.
 -- Assumes nothing.
-use mathlib.Core.Path.{sym, ap, _∙_}
+use mathlib.Core.Path.{sym, ap, subst, _∙_}
 use Prim.Native.Nat.{ℕ, _*_, _/_, _≤_}
 use native.Mathlib.Omega.{arith}
 use borrow.Author.Needs.{needs}
@@ -13,7 +13,7 @@ use Rattle.stream.specs.declared.calls.State.{State}
 use Rattle.rows.specs.Streaming.{Streamed, pictureOf}
 use Rattle.rows.proofs.Advancing.{has-begun}
 use Rattle.rows.proofs.Taking.{is-taken, start-accepted}
-use Rattle.rounding.specs.Division.{divisor}
+use Rattle.rounding.specs.Division.{divisor, Divides}
 use Rattle.blur.proofs.run.Statement.{statement}
 use Rattle.blur.proofs.run.Tie as tie
 
@@ -50,7 +50,8 @@ gray-rows-requires c κs =
     let k = start .pre .1 in
     let st = skipped after in (
       is-taken _ _ _ _ _ _ _ st _ _ (accepted start) (ap (λ n. n / 2) (k .columnReach)) (ap (λ n. n / 2) (k .rowReach)) (after .skip .kept .1 .1 .1 .0 ∙ start .pre .2),
-      c .before .before .before .before .divisor-of .ensures ∙ ap divisor (k .weight ∙ ap (λ (s : State). gain (recipe (s .filter))) (sym (st .is))),
+      subst (λ w. Divides w (c .before .before .before .before .divisor-of .result)) (ap (λ (s : State). gain (recipe (s .filter))) (sym (st .is)))
+          (record { notZero = k .accepted .notZero; light = k .accepted .light; is = c .before .before .before .before .divisor-of .ensures ∙ ap divisor (k .weight) }),
       start .pre .3 ∙ ap (λ (s : State). s .width * s .height) (sym (st .is)),
     )
 

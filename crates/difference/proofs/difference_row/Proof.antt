@@ -1,6 +1,6 @@
 -- `difference::difference_row` meets its contract: the differences are written from the left; each sum times the other weight is at most 255 times the product of the weights.
 -- Assumes nothing.
-use mathlib.Core.Path.{_≡_, sym, ap, subst, _∙_}
+use mathlib.Core.Path.{_≡_, ap, _∙_}
 use mathlib.Core.List.{List}
 use Prim.Native.Nat.{ℕ, _-_, _*_, _≤_}
 use native.Mathlib.Nat.{mul-comm}
@@ -12,9 +12,8 @@ use mir.Syntax.{w16}
 use mir.ValLaws.{toZ-ofZ}
 use Rattle.spec.specs.Gray.{nearestDifference}
 use Rattle.laws.proofs.Slices.{Rightwards, rightwards-none, rightwards-more, rightwards-all}
-use Rattle.rounding.specs.declared.Divisor.{Divisor}
+use Rattle.rounding.proofs.Dividing.{own-weight, divides-own}
 use Rattle.difference.specs.declared.Weights.{Weights}
-use Rattle.difference.specs.Pairs.{Divides}
 use Rattle.difference.proofs.Nearest.{times-other}
 use Rattle.difference.proofs.difference_row.Statement.{statement}
 use Rattle.difference.proofs.difference_row.Tie as tie
@@ -77,8 +76,8 @@ signed-requires : tie.Need-signed-requires Inv-loop μ-loop
 signed-requires c κs =
     let turn = c .before .before .before .before in
     let d = start turn .pre .0 in
-    let is = ap (λ (x : Divisor). x .weight) (d .is) in (
-      subst (λ w. Divides w (start turn .args .weights .by)) (sym is) d,
+    let is = own-weight _ _ d in (
+      divides-own _ _ d,
       omega (arith, left turn, right turn, is),
       omega (arith, left turn, right turn, is),
     )
@@ -106,7 +105,7 @@ loop-again c =
       rightwards-more (made (a .weights) (a .a-sums .now) (a .b-sums .now)) (a .out .now) _ (turn .inv .3) (search needs)
           (toZ-ofZ w16 _ (sfits-of (c .signed .ok))
           ∙ c .signed .ensures
-          ∙ ap (nearestDifference (getD (a .a-sums .now) (turn .k) 0 * a .weights .b) (getD (a .b-sums .now) (turn .k) 0 * a .weights .a)) (ap (λ (x : Divisor). x .weight) (start test .pre .0 .is))),
+          ∙ ap (nearestDifference (getD (a .a-sums .now) (turn .k) 0 * a .weights .b) (getD (a .b-sums .now) (turn .k) 0 * a .weights .a)) (own-weight _ _ (start test .pre .0))),
     )
 
 same-length : tie.Need-same-length Inv-loop μ-loop

@@ -1,6 +1,6 @@
 -- `difference::signed` meets its contract: the larger number less the smaller is rounded as a sum is, and negated where `y` is the larger.
 -- Assumes nothing.
-use mathlib.Core.Path.{_≡_, sym, ap, subst, _∙_}
+use mathlib.Core.Path.{_≡_, ap, _∙_}
 use mathlib.Core.Logic.{⊎-elim}
 use Prim.Native.Nat.{_+_, _-_, _*_, _≤_}
 use native.Mathlib.Omega.{arith}
@@ -9,9 +9,7 @@ use lib.IntN.{pos, negℤ}
 use mir.Syntax.{w16}
 use mir.ValLaws.{toZ-ofZ}
 use Rattle.spec.specs.Gray.{gray}
-use Rattle.rounding.specs.declared.Divisor.{Divisor}
-use Rattle.rounding.specs.Division.{quotient}
-use Rattle.rounding.proofs.Dividing.{quotient-gray, gray-most}
+use Rattle.rounding.proofs.Dividing.{rounded-gray}
 use Rattle.difference.proofs.Nearest.{not-negative, negative, byte-is, negated-is, apart-fits}
 use Rattle.difference.proofs.signed.Statement.{statement}
 use Rattle.difference.proofs.signed.Tie as tie
@@ -30,13 +28,9 @@ rounded-requires c κs = search needs
 size-is : (c : tie.After-rounded) → (c .rounded .result ≡ gray (c .before .before .args .by .weight) (c .before .if1 .gap)) × (c .rounded .result ≤ 255)
 size-is c =
     let start = c .before .before in
-    let w = start .args .by .weight in
-    let gap = c .before .if1 .gap in
-    let d = start .pre .0 in
-    let few : 255 ≤ 65535 = omega arith in
-    let bounded : gap ≤ 255 * w = omega (arith, gap-is (c .before), start .pre .1, start .pre .2) in
-    let is = c .rounded .ensures ∙ ap (λ (b : Divisor). quotient b gap) (d .is) ∙ quotient-gray 255 w gap (d .notZero) (d .light) few bounded in
-    (is, subst (λ q. q ≤ 255) (sym is) (gray-most 255 w gap (d .notZero) (d .light) few bounded))
+    let by = start .args .by in
+    let bounded : c .before .if1 .gap ≤ 255 * by .weight = omega (arith, gap-is (c .before), start .pre .1, start .pre .2) in
+    rounded-gray (by .weight) by (start .pre .0) _ _ bounded (c .rounded .ensures)
 
 cast-size : tie.Need-cast-size
 cast-size c = let small = size-is c .1 in search needs

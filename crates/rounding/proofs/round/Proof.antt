@@ -1,15 +1,15 @@
 -- `rounding::round` meets its contract: the recipe's checks, then 7 and 11, then the greys.
 -- Assumes nothing.
-use mathlib.Core.Path.{_≡_, sym, ap, _∙_}
+use mathlib.Core.Path.{_≡_, sym, ap, subst, _∙_}
 use mathlib.Core.Bool.{true, false}
-use Prim.Native.Nat.{_<_}
 use native.Mathlib.Omega.{arith}
 use borrow.Author.Needs.{needs}
 use Rattle.spec.specs.Recipe.{recipe, gain}
 use Rattle.spec.specs.Refusals.{roundChecks, tooBright}
 use Rattle.filter.proofs.Refusal.{Known, known, measured-refused}
-use Rattle.rounding.specs.Division.{divisor}
-use Rattle.rounding.proofs.Grays.{none-bright, by-length, by-brightness, round-refused, round-all, row-accepted, row-grays}
+use Rattle.rounding.specs.Division.{divisor, Divides, Bounded}
+use Rattle.rounding.proofs.Grays.{none-bright, by-length, by-brightness, round-refused, round-all}
+use Rattle.rounding.proofs.Dividing.{own-weight, divides-own}
 use Rattle.rounding.proofs.round.Statement.{statement}
 use Rattle.rounding.proofs.round.Tie as tie
 
@@ -55,8 +55,21 @@ returns-3 c =
 divisor-of-requires : tie.Need-divisor-of-requires
 divisor-of-requires c κs = search needs
 
+-- what divides by the weight
+divides : (c : tie.After-divisor-of) → Divides (gain (recipe (c .before .before .before .before .before .before .before .before .before .args .filter))) (c .divisor-of .result)
+divides c =
+    let k = accepted (c .before .before .before .before .before) in
+    record { notZero = k .accepted .notZero; light = k .accepted .light; is = c .divisor-of .ensures ∙ ap divisor (k .weight) }
+
 round-row-requires : tie.Need-round-row-requires
-round-row-requires c κs = search needs
+round-row-requires c κs =
+    let divided = c .before in
+    let over = divided .before .before in
+    let bounded = none-bright _ _ (sym (bright over) ∙ divided .before .if3 .left) in (
+      divides-own _ _ (divides divided),
+      subst (λ w. Bounded w (c .before .before .before .before .before .before .before .before .before .before .args .sums .now)) (sym (own-weight _ _ (divides divided))) bounded,
+      sym (over .before .before .if2 .left),
+    )
 
 same-length : tie.Need-same-length
 same-length c = search needs
@@ -69,12 +82,8 @@ returns-4 c =
     let sized = over .before .before in
     let args = sized .before .before .before .before .before .args in
     let k = accepted (sized .before) in
-    let positive : 0 < gain (recipe (args .filter)) = k .accepted .notZero in
-    let is = divided .divisor-of .ensures ∙ ap divisor (k .weight) in
-    let bounded = none-bright _ _ (sym (bright over) ∙ divided .before .if3 .left) in
     round-all _ _ _ _ _ (by-brightness _ (args .sums .now) (args .out .now) (k .none) (sized .if2 .left) false (sym (divided .before .if3 .left) ∙ bright over))
-    (row-accepted _ positive (k .accepted .light) _ is _ _ bounded (sized .if2 .left) _ _ (row .ensures))
-    (row-grays _ positive (k .accepted .light) _ is _ _ bounded (sized .if2 .left) _ _ (row .ensures))
+    (own-weight _ _ (divides divided)) (row .ensures)
 
 pub round-spec : {M : Type 1} → statement M
 round-spec =
