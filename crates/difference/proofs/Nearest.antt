@@ -19,7 +19,7 @@ use Rattle.spec.specs.Recipe.{Recipe, gain}
 use Rattle.spec.specs.Picture.{Picture}
 use Rattle.spec.specs.Gray.{gray, nearest, nearestDifference, sameSum, difference}
 use Rattle.laws.proofs.Lists.{tab-agree}
-use Rattle.rounding.proofs.Dividing.{nearest-gray}
+use Rattle.gray.proofs.Dividing.{nearest-gray}
 
 -- the nearest whole number of (x - y) over the weight, where that is not negative and where it is
 module _ (x y weight : ℕ) where

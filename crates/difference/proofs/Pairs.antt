@@ -16,8 +16,8 @@ use Rattle.laws.proofs.Refusals.{AcceptedPicture, is-accepted-picture}
 use Rattle.stream.specs.declared.calls.State.{State}
 use Rattle.rows.specs.Streaming.{Streamed, pictureOf}
 use Rattle.difference.specs.declared.Operand.{Operand}
-use Rattle.rounding.specs.declared.Divisor.{Divisor}
-use Rattle.rounding.specs.Division.{divisor}
+use Rattle.gray.specs.declared.rounding.Divisor.{Divisor}
+use Rattle.gray.specs.Division.{divisor}
 use Rattle.rows.specs.Taking.{Taken}
 use Rattle.difference.specs.Pairs.{BothAccepted, BothTaken}
 use Rattle.rows.proofs.Taking.{is-taken, start-accepted, grown}

@@ -17,7 +17,7 @@ use Rattle.difference.specs.declared.Places.{Places}
 use Rattle.difference.specs.declared.Operand.{Operand}
 use Rattle.difference.specs.declared.Given.{Given}
 use Rattle.difference.specs.declared.Plan.{Plan}
-use Rattle.rounding.specs.Division.{Divides}
+use Rattle.gray.specs.Division.{Divides}
 use Rattle.rows.specs.Taking.{Taken}
 
 -- Both one passes of the same picture stand before the first row that is taken, each with its own part of the cells.

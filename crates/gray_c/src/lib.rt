@@ -5,8 +5,8 @@ ghost use Rattle.spec.specs.Recipe.{recipe};
 ghost use Rattle.spec.specs.Picture.{picture};
 ghost use Rattle.spec.specs.Gray.{sameSum, sameGray, sameQuotient, reading};
 ghost use Rattle.spec.specs.Refusals.{first, lent, readingChecks};
-ghost use Rattle.rounding.specs.Rounded.{Rounded};
-ghost use Rattle.blur.specs.Written.{Blurred};
+ghost use Rattle.gray.specs.Rounded.{Rounded};
+ghost use Rattle.gray.specs.Blurred.{Blurred};
 ghost use Rattle.difference.specs.Written.{Differenced};
 ghost use Rattle.sample.specs.Sampled.{chosen};
 ghost use Rattle.blocks.specs.Given.{given};
@@ -22,7 +22,7 @@ use spec::Filter;
 pub extern "C" fn bore_round(block: &[u8; 98], sums: &[u64], out: &mut [u8]) -> u8
     ensures { λ r. ⌜ Rounded (recipe (given (now (block .entry)))) (now (sums .entry)) (now (out .entry)) r (now (out .exit)) ⌝ }
 {
-    rounding::round(filter_of(block), sums, out)
+    gray::round(filter_of(block), sums, out)
 }
 
 // The blur of a picture in its own size: 1 to 8.
@@ -39,7 +39,7 @@ pub extern "C" fn bore_blur(
         (now (out .entry)) (now (cells .entry)) r (now (out .exit)) (now (cells .exit)) ⌝ }
 {
     let filter = filter_of(block);
-    blur::blur(filter, width, height, pixels, out, cells)
+    gray::blur(filter, width, height, pixels, out, cells)
 }
 
 // The difference of two recipes at each picture place: the first's 1 to 4, then the second's 1 to 4, then

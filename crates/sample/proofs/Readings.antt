@@ -22,8 +22,8 @@ use Rattle.direct.specs.declared.points.Point.{Point}
 use Rattle.direct.specs.declared.points.Point.the-variants as point
 use Rattle.direct.specs.Answers.{pointTold}
 use Rattle.direct.proofs.Reading.{is-inside}
-use Rattle.rounding.specs.Rounded.{Rounded}
-use Rattle.rounding.proofs.Grays.{by-brightness}
+use Rattle.gray.specs.Rounded.{Rounded}
+use Rattle.gray.proofs.Grays.{by-brightness}
 
 -- the grey of a sum, by rounding a row of one
 pub only-gray : (r : Recipe) (s number : ℕ) (out new : List ℕ) → first (recipeChecks r) ≡ 0 → s ≤ 255 * gain r → length out ≡ 1

@@ -9,7 +9,7 @@ ghost use Rattle.sample.specs.Sampled.{chosen, sampleTold, sampledTold};
 use direct::Point;
 use direct::point_sum;
 use filter::measure;
-use rounding::round;
+use gray::round;
 use spec::Filter;
 
 // What is read: the grey, the exact sum, or the quotient of sum and weight.

@@ -12,7 +12,7 @@ use mir.Syntax.{w16}
 use mir.ValLaws.{toZ-ofZ}
 use Rattle.spec.specs.Gray.{nearestDifference}
 use Rattle.laws.proofs.Slices.{Rightwards, rightwards-none, rightwards-more, rightwards-all}
-use Rattle.rounding.proofs.Dividing.{own-weight, divides-own}
+use Rattle.gray.proofs.Dividing.{own-weight, divides-own}
 use Rattle.difference.specs.declared.Weights.{Weights}
 use Rattle.difference.proofs.Nearest.{times-other}
 use Rattle.difference.proofs.difference_row.Statement.{statement}

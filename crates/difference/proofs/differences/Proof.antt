@@ -14,7 +14,7 @@ use Rattle.laws.proofs.Numbers.{row-fits}
 use Rattle.laws.proofs.Slices.{Mixed, mixed-none, mixed-all, length-mixed, length-lent}
 use Rattle.laws.proofs.Refusals.{grown-most}
 use Rattle.laws.proofs.Rows.{length-rows, rows-more}
-use Rattle.rounding.specs.Division.{Bounded}
+use Rattle.gray.specs.Division.{Bounded}
 use Rattle.rows.specs.Streaming.{Streamed, pictureOf}
 use Rattle.rows.proofs.Driving.{is-due, has-come}
 use Rattle.rows.proofs.Taking.{long, taken-length, taken-at, taken-bounded}

@@ -9,7 +9,7 @@ use lib.IntN.{pos, negℤ}
 use mir.Syntax.{w16}
 use mir.ValLaws.{toZ-ofZ}
 use Rattle.spec.specs.Gray.{gray}
-use Rattle.rounding.proofs.Dividing.{rounded-gray}
+use Rattle.gray.proofs.Dividing.{rounded-gray}
 use Rattle.difference.proofs.Nearest.{not-negative, negative, byte-is, negated-is, apart-fits}
 use Rattle.difference.proofs.signed.Statement.{statement}
 use Rattle.difference.proofs.signed.Tie as tie

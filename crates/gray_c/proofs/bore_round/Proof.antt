@@ -1,4 +1,4 @@
--- `gray_c::bore_round` meets its contract: the answer of `rounding::round`, for the recipe that is given.
+-- `gray_c::bore_round` meets its contract: the answer of `gray::round`, for the recipe that is given.
 -- Assumes nothing.
 use borrow.Author.Needs.{needs}
 use Rattle.gray_c.proofs.bore_round.Statement.{statement}

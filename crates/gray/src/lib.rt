@@ -1,0 +1,9 @@
+// Document 01's greys: rounding, and the same-size blur.
+mod rounding;
+mod same;
+
+pub use rounding::Divisor;
+pub use rounding::divisor_of;
+pub use rounding::round;
+pub use rounding::rounded;
+pub use same::blur;

@@ -1,0 +1,89 @@
+// Document 01's rounding: a sum over the weight, and a row of sums.
+ghost use mathlib.Core.Path.{_≡_};
+ghost use lib.Dec.{ltb};
+ghost use lib.ListN.{length};
+ghost use Rattle.spec.specs.Words.{somewhere};
+ghost use Rattle.spec.specs.Recipe.{recipe};
+ghost use Rattle.spec.specs.Gray.{grays};
+ghost use Rattle.gray.specs.Division.{divisor, quotient, Divides, Bounded};
+ghost use Rattle.gray.specs.Rounded.{Rounded};
+use filter::measure;
+use spec::Filter;
+use std::num::wrapping_add_u64;
+
+// A weight to divide by: its half, downwards, and whether it has a single bit set; a shift then divides
+// by it.
+pub struct Divisor {
+    pub weight: u64,
+    pub half: u64,
+    pub single: bool,
+    pub shift: u32,
+}
+
+pub fn divisor_of(weight: u64) -> Divisor
+    ensures { λ r. ⌜ r ≡ divisor weight ⌝ }
+{
+    Divisor {
+        weight,
+        half: weight / 2,
+        single: u64::count_ones(weight) == 1,
+        shift: u64::trailing_zeros(weight),
+    }
+}
+
+// A sum over the weight, to the nearest whole number, a half upwards, where the sum and the half fit 64
+// bits; over a weight of 0 it is 0.
+pub fn rounded(sum: u64, by: Divisor) -> u64
+    ensures { λ r. ⌜ r ≡ quotient by sum ⌝ }
+{
+    let raised = wrapping_add_u64(sum, by.half);
+    if by.single {
+        raised >> (by.shift % 64)
+    } else if by.weight == 0 {
+        0
+    } else {
+        raised / by.weight
+    }
+}
+
+// The greys of a row of sums.
+pub(crate) fn round_row(by: Divisor, sums: &[u64], out: &mut [u8])
+    requires { ⌜ Divides (by .weight) by × Bounded (by .weight) (now sums) × (length (now sums) ≡ length (now out)) ⌝ }
+    ensures { λ r. ⌜ now (out .exit) ≡ grays (by .weight) (now (sums .entry)) ⌝ }
+{
+    for k in 0..out.len() {
+        out[k] = rounded(sums[k], by) as u8;
+    }
+}
+
+// Whether a sum is above a limit.
+fn over(most: u64, sums: &[u64]) -> bool
+    ensures { λ r. ⌜ r ≡ somewhere (λ s. ltb most s) (now (sums .entry)) ⌝ }
+{
+    let mut found = false;
+    for k in 0..sums.len() {
+        if most < sums[k] {
+            found = true;
+        }
+    }
+    found
+}
+
+// The greys of a row of sums, of any length, into as many bytes: refused by 1 to 4, 7, 11.
+pub fn round(filter: Filter, sums: &[u64], out: &mut [u8]) -> u8
+    ensures { λ r. ⌜ Rounded (recipe filter) (now (sums .entry)) (now (out .entry)) r (now (out .exit)) ⌝ }
+{
+    let m = measure(filter);
+    let number = m.refusal;
+    if number != 0 {
+        return number;
+    }
+    if out.len() != sums.len() {
+        return 7;
+    }
+    if over(255 * m.gain, sums) {
+        return 11;
+    }
+    round_row(divisor_of(m.gain), sums, out);
+    0
+}
