@@ -50,6 +50,7 @@ pub struct Moments {
 /// The state of the stream (document 01: the one pass) between two calls: the
 /// filter, the sides of the picture and the rows yielded.
 #[derive(Clone, Copy, Debug, PartialEq, Eq)]
+#[repr(C)]
 pub struct State {
     pub filter: Filter,
     pub width: usize,
@@ -60,6 +61,7 @@ pub struct State {
 /// What reading a job gives: the filter, the sides of the picture, and the
 /// offset at which the pixels begin.
 #[derive(Clone, Copy, Debug, PartialEq, Eq)]
+#[repr(C)]
 pub struct Job {
     pub filter: Filter,
     pub width: usize,

@@ -3,9 +3,10 @@
 //!
 //! Nothing compares these declarations with the libraries' source: keep each of
 //! them equal to the exported function, argument by argument. A block of 98 or
-//! 49 bytes is declared as the struct with these bytes. A slice is a pointer and
-//! a length. A call of which every argument is a number or a reference is
-//! declared safe.
+//! 49 bytes is declared as the struct with these bytes, a block of three words
+//! is three fields of a struct one after the other. A slice is a pointer and a
+//! length. A call of which every argument is a number or a reference is declared
+//! safe.
 
 #![allow(unsafe_code)]
 
@@ -20,8 +21,14 @@ const _: () = assert!(size_of::<Filter>() == 98 && align_of::<Filter>() == 1);
 const _: () = assert!(offset_of!(Filter, rows) == 0 && offset_of!(Filter, columns) == 49);
 
 /// The words of a state or of a job that was read: width, height, and rows
-/// yielded or the offset of the pixels.
+/// yielded or the offset of the pixels. They are the fields from the width on.
 type Words = [usize; 3];
+
+const WORD: usize = size_of::<usize>();
+const _: () = assert!(offset_of!(State, height) == offset_of!(State, width) + WORD);
+const _: () = assert!(offset_of!(State, emitted) == offset_of!(State, width) + 2 * WORD);
+const _: () = assert!(offset_of!(Job, height) == offset_of!(Job, width) + WORD);
+const _: () = assert!(offset_of!(Job, offset) == offset_of!(Job, width) + 2 * WORD);
 
 // The library filter_c.
 unsafe extern "C" {
@@ -85,13 +92,13 @@ unsafe extern "C" {
         height: usize,
         cells: *mut u64,
         cells_len: usize,
-        state: &mut Filter,
-        words: &mut Words,
+        state: *mut Filter,
+        words: *mut Words,
     ) -> u8;
 
     fn bore_push(
-        state: &Filter,
-        words: &mut Words,
+        state: *const Filter,
+        words: *mut Words,
         pixels: *const u8,
         pixels_len: usize,
         out: *mut u64,
@@ -102,8 +109,8 @@ unsafe extern "C" {
     ) -> u8;
 
     fn bore_drain(
-        state: &Filter,
-        words: &mut Words,
+        state: *const Filter,
+        words: *mut Words,
         out: *mut u64,
         out_len: usize,
         cells: *mut u64,
@@ -186,8 +193,8 @@ unsafe extern "C" {
     fn bore_read_job(
         bytes: *const u8,
         bytes_len: usize,
-        block: &mut Filter,
-        words: &mut Words,
+        block: *mut Filter,
+        words: *mut Words,
     ) -> u8;
 
     safe fn bore_job_size(block: &Filter, width: usize, height: usize, size: &mut usize) -> u8;
@@ -321,22 +328,20 @@ pub fn start(
     cells: &mut [u64],
     state: &mut State,
 ) -> u8 {
-    let mut words = words_of(state);
-    // SAFETY: the pointer and the length are those of one slice, which is lent
-    // to this call alone.
-    let number = unsafe {
+    let state: *mut State = state;
+    // SAFETY: the pointer and the length are those of one slice, and the blocks
+    // are fields of one state; both are lent to this call alone.
+    unsafe {
         bore_start(
             filter,
             width,
             height,
             cells.as_mut_ptr(),
             cells.len(),
-            &mut state.filter,
-            &mut words,
+            &raw mut (*state).filter,
+            (&raw mut (*state).width).cast(),
         )
-    };
-    set_words(state, words);
-    number
+    }
 }
 
 /// Gives the stream the next picture row and takes one grown row from it.
@@ -349,13 +354,14 @@ pub fn push(
     cells: &mut [u64],
     count: &mut u64,
 ) -> u8 {
-    let mut words = words_of(state);
-    // SAFETY: each pointer and the length after it are those of one slice; the
-    // two that are written are lent to this call alone.
-    let number = unsafe {
+    let state: *mut State = state;
+    // SAFETY: each pointer and the length after it are those of one slice, and
+    // the blocks are fields of one state; it and the two slices that are written
+    // are lent to this call alone.
+    unsafe {
         bore_push(
-            &state.filter,
-            &mut words,
+            &raw const (*state).filter,
+            (&raw mut (*state).width).cast(),
             pixels.as_ptr(),
             pixels.len(),
             out.as_mut_ptr(),
@@ -364,38 +370,26 @@ pub fn push(
             cells.len(),
             count,
         )
-    };
-    set_words(state, words);
-    number
+    }
 }
 
 /// Takes one grown row from the stream when all picture rows are in. `count`
 /// becomes the count of additions and subtractions; refusals 9, 10, then 7, 8.
 pub fn drain(state: &mut State, out: &mut [u64], cells: &mut [u64], count: &mut u64) -> u8 {
-    let mut words = words_of(state);
-    // SAFETY: each pointer and the length after it are those of one slice; both
-    // are lent to this call alone.
-    let number = unsafe {
+    let state: *mut State = state;
+    // SAFETY: each pointer and the length after it are those of one slice, and
+    // the blocks are fields of one state; all are lent to this call alone.
+    unsafe {
         bore_drain(
-            &state.filter,
-            &mut words,
+            &raw const (*state).filter,
+            (&raw mut (*state).width).cast(),
             out.as_mut_ptr(),
             out.len(),
             cells.as_mut_ptr(),
             cells.len(),
             count,
         )
-    };
-    set_words(state, words);
-    number
-}
-
-fn words_of(state: &State) -> Words {
-    [state.width, state.height, state.emitted]
-}
-
-fn set_words(state: &mut State, words: Words) {
-    [state.width, state.height, state.emitted] = words;
+    }
 }
 
 /// The greys of a row of sums (document 01: rounding), in an output of the same
@@ -521,11 +515,17 @@ pub fn sample_mean(
 /// than 7 bytes, mark or version, 1, 14 for lists and sides cut short, 2 to 5,
 /// then 14 for any other length.
 pub fn read_job(bytes: &[u8], job: &mut Job) -> u8 {
-    let mut words = [job.width, job.height, job.offset];
-    // SAFETY: the pointer and the length are those of one slice.
-    let number = unsafe { bore_read_job(bytes.as_ptr(), bytes.len(), &mut job.filter, &mut words) };
-    [job.width, job.height, job.offset] = words;
-    number
+    let job: *mut Job = job;
+    // SAFETY: the pointer and the length are those of one slice, and the blocks
+    // are fields of one job, which is lent to this call alone.
+    unsafe {
+        bore_read_job(
+            bytes.as_ptr(),
+            bytes.len(),
+            &raw mut (*job).filter,
+            (&raw mut (*job).width).cast(),
+        )
+    }
 }
 
 /// The length of a job in bytes; refusals 1 to 5.
