@@ -54,10 +54,11 @@ measuredChecks m n =
     check (oddApart (m .«row_order») (n .«row_order») || oddApart (m .«column_order») (n .«column_order»)) 12
     ∷ check (ltb (2 ^ 44) (m .gain * n .gain)) 13 ∷ []
 
--- 6, 7, 8, 12 and 13, and the sizes
+-- the work cells of one recipe, twice its grown size
 unfoldable pub grownCells : Measures → ℕ → ℕ → ℕ
 grownCells m w h = 2 * ((w + m .«row_order») * (h + m .«column_order»))
 
+-- 7, 8, 12 and 13; and 6 before them
 abbrev pub outputChecks : Measures → Measures → Given → List Check
 outputChecks m n g =
     check (otherOutput (g .out) (g .width * g .height)) 7
@@ -67,6 +68,7 @@ outputChecks m n g =
 unfoldable pub planChecks : Measures → Measures → Given → List Check
 planChecks m n g = check (otherPixels (g .pixels) (g .width * g .height)) 6 ∷ outputChecks m n g
 
+-- the number, and the sizes
 abbrev pub planOf : Measures → Measures → Given → Plan
 planOf m n g =
     record {

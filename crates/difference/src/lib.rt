@@ -11,7 +11,7 @@ ghost use Rattle.spec.specs.Gray.{nearestDifference, places as placesOf, differ
 ghost use Rattle.rows.specs.Streaming.{pictureOf, Streamed, Due, Came};
 ghost use Rattle.gray.specs.Division.{Divides, Bounded};
 ghost use Rattle.difference.specs.Pairs.{BothTaken, BothAccepted, Moderate, measuredChecks, planOf};
-ghost use Rattle.difference.specs.Written.{Differenced};
+ghost use Rattle.difference.specs.Differenced.{Differenced};
 use filter::FullSize;
 use filter::Measures;
 use filter::full_size;

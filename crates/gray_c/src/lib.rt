@@ -7,7 +7,7 @@ ghost use Rattle.spec.specs.Gray.{sameSum, sameGray, sameQuotient, reading};
 ghost use Rattle.spec.specs.Refusals.{first, lent, readingChecks};
 ghost use Rattle.gray.specs.Rounded.{Rounded};
 ghost use Rattle.gray.specs.Blurred.{Blurred};
-ghost use Rattle.difference.specs.Written.{Differenced};
+ghost use Rattle.difference.specs.Differenced.{Differenced};
 ghost use Rattle.sample.specs.Sampled.{chosen};
 ghost use Rattle.blocks.specs.Given.{given};
 ghost use Rattle.gray_c.specs.Placed.{Placed};
