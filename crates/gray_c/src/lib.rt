@@ -115,17 +115,17 @@ pub extern "C" fn bore_sample_gray(
         let cs = readingChecks g p column row in
         ⌜ (r ≡ first cs) × (now (gray .exit) ≡ lent cs (sameGray g p column row) (now (gray .entry))) ⌝ }
 {
-    let for_gray = filter_of(block);
+    let for_gray = Quantity::Gray;
     let mut sum: u64 = 0;
     let mut mean: f64 = 0.0;
     sample_into(
-        for_gray,
+        filter_of(block),
         width,
         height,
         pixels,
         column,
         row,
-        Quantity::Gray,
+        for_gray,
         gray,
         &mut sum,
         &mut mean,
@@ -147,17 +147,17 @@ pub extern "C" fn bore_sample_sum(
         let cs = readingChecks g p column row in
         ⌜ (r ≡ first cs) × (now (sum .exit) ≡ lent cs (sameSum g p column row) (now (sum .entry))) ⌝ }
 {
-    let for_sum = filter_of(block);
+    let for_sum = Quantity::Sum;
     let mut gray: u8 = 0;
     let mut mean: f64 = 0.0;
     sample_into(
-        for_sum,
+        filter_of(block),
         width,
         height,
         pixels,
         column,
         row,
-        Quantity::Sum,
+        for_sum,
         &mut gray,
         sum,
         &mut mean,
@@ -179,17 +179,17 @@ pub extern "C" fn bore_sample_mean(
         let cs = readingChecks g p column row in
         ⌜ (r ≡ first cs) × (now (mean .exit) ≡ lent cs (sameQuotient g p column row) (now (mean .entry))) ⌝ }
 {
-    let for_mean = filter_of(block);
+    let for_mean = Quantity::Mean;
     let mut gray: u8 = 0;
     let mut sum: u64 = 0;
     sample_into(
-        for_mean,
+        filter_of(block),
         width,
         height,
         pixels,
         column,
         row,
-        Quantity::Mean,
+        for_mean,
         &mut gray,
         &mut sum,
         mean,
