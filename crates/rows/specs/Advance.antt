@@ -16,7 +16,7 @@ unfoldable pub advance : State → List ℕ → List ℕ → List ℕ → Called
 advance s pixels out cells =
     cond (ltb (s .emitted) (s .height)) (push s (rowAt pixels (s .width) (s .emitted)) out cells) (drain s out cells)
 
--- so many calls of `advance`, one after the other: the state, and what the row and the cells then hold
+-- so many calls of `advance`, one after the other, of which refused ones change nothing: the state, and what the row and the cells then hold
 pub record Skipped : Type 0 where
   pub state : State
   pub row : List ℕ

@@ -39,8 +39,9 @@ pub fn advance(state: State, pixels: &[u8], out: &mut [u64], cells: &mut [u64]) 
     }
 }
 
-// Passes over as many grown rows as `count` says, each as by `advance`; the last of them stands in `row`.
-// It stops where a call is refused: that changes nothing, and so would every further one.
+// Passes over as many grown rows as `count` says, each as by `advance`, or as many as can be had; the last
+// of them stands in `row`, and the state tells how many. It stops where a call is refused: that changes
+// nothing, and neither would any further one.
 pub fn skip(state: State, count: usize, pixels: &[u8], row: &mut [u64], cells: &mut [u64]) -> State
     ensures { λ r. ⌜ skipped r (now (row .exit)) (now (cells .exit)) ≡ skipOf count state (now (pixels .entry)) (now (row .entry)) (now (cells .entry)) ⌝ }
 {
