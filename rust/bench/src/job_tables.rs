@@ -21,6 +21,12 @@ fn list(cascade: &Cascade) -> &[u8] {
     &cascade.widths[..cascade.count.into()]
 }
 
+/// All that a job holds, bytes past the counts included.
+fn fields(job: &Job) -> ([(u8, [u8; 48]); 2], [usize; 3]) {
+    let lists = [job.filter.rows, job.filter.columns].map(|list| (list.count, list.widths));
+    (lists, [job.width, job.height, job.offset])
+}
+
 impl Work {
     fn new(rows: &[u8], columns: &[u8]) -> Work {
         let filter = Filter {
@@ -101,7 +107,8 @@ pub fn files() {
         assert!(library.file == rust.file, "writing, {name}");
         library.read();
         rust.read_in_rust();
-        assert_eq!(library.read, rust.read, "reading, {name}");
+        let [by_library, by_rust] = [&library.read, &rust.read].map(fields);
+        assert_eq!(by_library, by_rust, "reading, {name}");
         let [a, b, c] = alternate([
             &mut || library.write(),
             &mut || rust.write_in_rust(),

@@ -1,11 +1,12 @@
-//! Safe wrapper over the static libraries of the bore wall picture filter of
+//! Safe wrapper over the static library of the bore wall picture filter of
 //! document 01.
 //!
 //! Every call returns document 01's refusal number, 0 where it is accepted,
-//! and writes its values to what the caller lends. A refused call writes
-//! nothing, but for the state of a refused start, the count of a refused push
-//! or drain and the job of a refused `read_job`, which become zeros. The calls
-//! stand in `raw`, each beside the declaration of the function that it calls.
+//! and writes its values to what the caller lends; `refusal_text` gives the
+//! words of a number. A refused call writes nothing, but for the state of a
+//! refused start, the count of a refused push or drain and the job of a refused
+//! `read_job`, which become zeros. The calls stand in `raw`, each beside the
+//! declaration of the function that it calls.
 
 #![deny(unsafe_code)]
 
@@ -19,17 +20,42 @@ pub use raw::{
 
 /// The widths of one axis (document 01: a row list or a column list). Only the
 /// first `count` of the 48 bytes have a meaning; a count above 48 is refused.
-/// Its 49 bytes are the block by which a list crosses to the library.
-#[derive(Clone, Copy, Debug, PartialEq, Eq)]
+/// Its 49 bytes are the block by which a list crosses to the library. It has no
+/// equality: lists that differ can be the same filter, as `equivalent` tells.
+#[derive(Clone, Copy, Debug)]
 #[repr(C)]
 pub struct Cascade {
     pub count: u8,
     pub widths: [u8; 48],
 }
 
+impl Cascade {
+    /// The widths up to the count; all 48 where the count is above 48, which
+    /// every call refuses by 1.
+    pub fn as_slice(&self) -> &[u8] {
+        let count = usize::from(self.count);
+        self.widths.get(..count).unwrap_or(&self.widths)
+    }
+}
+
+/// A list of at most 48 widths, with zeros past them; a longer one is refused
+/// by 1.
+impl TryFrom<&[u8]> for Cascade {
+    type Error = u8;
+
+    fn try_from(list: &[u8]) -> Result<Cascade, u8> {
+        let mut widths = [0; 48];
+        let first = widths.get_mut(..list.len()).ok_or(1)?;
+        first.copy_from_slice(list);
+        let count = list.len() as u8;
+        Ok(Cascade { count, widths })
+    }
+}
+
 /// The widths of both axes (document 01: a recipe). Its 98 bytes are the block by
-/// which a recipe crosses to the library.
-#[derive(Clone, Copy, Debug, PartialEq, Eq)]
+/// which a recipe crosses to the library. It has no equality: whether two filters
+/// are the same is what `equivalent` tells.
+#[derive(Clone, Copy, Debug)]
 #[repr(C)]
 pub struct Filter {
     pub rows: Cascade,
@@ -48,8 +74,9 @@ pub struct Moments {
 }
 
 /// The state of the stream (document 01: the one pass) between two calls: the
-/// filter, the sides of the picture and the rows yielded.
-#[derive(Clone, Copy, Debug, PartialEq, Eq)]
+/// filter, the sides of the picture and the rows yielded. It has no equality, as
+/// its filter has none.
+#[derive(Clone, Copy, Debug)]
 #[repr(C)]
 pub struct State {
     pub filter: Filter,
@@ -59,8 +86,8 @@ pub struct State {
 }
 
 /// What reading a job gives: the filter, the sides of the picture, and the
-/// offset at which the pixels begin.
-#[derive(Clone, Copy, Debug, PartialEq, Eq)]
+/// offset at which the pixels begin. It has no equality, as its filter has none.
+#[derive(Clone, Copy, Debug)]
 #[repr(C)]
 pub struct Job {
     pub filter: Filter,
@@ -89,6 +116,7 @@ pub enum Sample {
 
 /// The reading at one place of the picture, a column and a row, by choice. The
 /// sum is the one that the blur takes there; refusals 1 to 6, then 15.
+#[must_use = "a number other than 0 is a refusal"]
 pub fn sample(
     filter: &Filter,
     width: usize,
@@ -112,4 +140,27 @@ pub fn sample(
         };
     }
     number
+}
+
+/// The words of a refusal number; those of 0 are "accepted".
+pub fn refusal_text(number: u8) -> &'static str {
+    match number {
+        0 => "accepted",
+        1 => "a list is longer than 48 widths",
+        2 => "a width is 0",
+        3 => "a reach is above 255",
+        4 => "the weight is above 2^44",
+        5 => "a side of the picture is 0 or above 1024",
+        6 => "the pixels are not as many as the row or the picture has",
+        7 => "an output has another length than the call asks for",
+        8 => "there are fewer work cells than the call needs",
+        9 => "the state is none: its recipe or its sides would be refused, or too many rows are yielded",
+        10 => "a row when all are in, a drain before that, or a drain when all rows are out",
+        11 => "a sum is above 255 times the weight",
+        12 => "the reaches of the two recipes differ in parity on an axis",
+        13 => "the product of the two weights is above 2^44",
+        14 => "the mark, the version or the length of the job is wrong",
+        15 => "the place is outside the picture",
+        _ => "no number of this library",
+    }
 }

@@ -1,12 +1,12 @@
-//! The declarations of the static libraries' functions, and a safe form of
+//! The declarations of the static library's functions, and a safe form of
 //! each. No other file has unsafe code.
 //!
-//! Nothing compares these declarations with the libraries' source: keep each of
-//! them equal to the exported function, argument by argument. A block of 98 or
-//! 49 bytes is declared as the struct with these bytes, a block of three words
-//! is three fields of a struct one after the other. A slice is a pointer and a
-//! length. A call of which every argument is a number or a reference is declared
-//! safe.
+//! The test tests/declarations.rs compares these declarations with the library's
+//! source: each has to be equal to the exported function, argument by argument.
+//! A block of 98 or 49 bytes is declared as the struct with these bytes, a block
+//! of three words is three fields of a struct one after the other. A slice is a
+//! pointer and a length. A call of which every argument is a number or a
+//! reference is declared safe.
 
 #![allow(unsafe_code)]
 
@@ -211,12 +211,14 @@ unsafe extern "C" {
 }
 
 /// Whether a filter is accepted; refusals 1 to 4.
+#[must_use = "a number other than 0 is a refusal"]
 pub fn check(filter: &Filter) -> u8 {
     bore_check(filter)
 }
 
 /// The coefficients of one cascade, into an output of exactly its order + 1;
 /// refusals 1 to 4 of the cascade as a filter of its own, then 7.
+#[must_use = "a number other than 0 is a refusal"]
 pub fn kernel(cascade: &Cascade, out: &mut [u64]) -> u8 {
     // SAFETY: the pointer and the length are those of one slice, which is lent
     // to this call alone.
@@ -225,6 +227,7 @@ pub fn kernel(cascade: &Cascade, out: &mut [u64]) -> u8 {
 
 /// The sides of the full convolution (document 01: the grown picture);
 /// refusals 1 to 5.
+#[must_use = "a number other than 0 is a refusal"]
 pub fn full_size(
     filter: &Filter,
     width: usize,
@@ -237,11 +240,13 @@ pub fn full_size(
 
 /// The work cells that the stream (document 01: the one pass) needs for a
 /// picture of this width; refusals 1 to 5, 5 for the width alone.
+#[must_use = "a number other than 0 is a refusal"]
 pub fn stream_cells(filter: &Filter, width: usize, cells: &mut usize) -> u8 {
     bore_stream_cells(filter, width, cells)
 }
 
 /// The moments of a filter; refusals 1 to 4.
+#[must_use = "a number other than 0 is a refusal"]
 pub fn moments(filter: &Filter, moments: &mut Moments) -> u8 {
     bore_moments(
         filter,
@@ -255,6 +260,7 @@ pub fn moments(filter: &Filter, moments: &mut Moments) -> u8 {
 
 /// Whether two filters are equal (document 01: the comparing call): `same`
 /// becomes 1 where they are, else 0; refusals 1 to 4 of `a`, then those of `b`.
+#[must_use = "a number other than 0 is a refusal"]
 pub fn equivalent(a: &Filter, b: &Filter, same: &mut u8) -> u8 {
     bore_equivalent(a, b, same)
 }
@@ -262,6 +268,7 @@ pub fn equivalent(a: &Filter, b: &Filter, same: &mut u8) -> u8 {
 /// Every exact sum as it is defined (document 01: direct), with the
 /// coefficients in two slices of exactly each order + 1 and the sums in an
 /// output of exactly the grown size; refusals 1 to 7.
+#[must_use = "a number other than 0 is a refusal"]
 pub fn direct(
     filter: &Filter,
     width: usize,
@@ -293,6 +300,7 @@ pub fn direct(
 /// The exact sums by one running sum after another over the whole grown
 /// picture (document 01: pass by pass), in an output of exactly the grown size
 /// and with at least as many work cells; refusals 1 to 8.
+#[must_use = "a number other than 0 is a refusal"]
 pub fn passes(
     filter: &Filter,
     width: usize,
@@ -321,6 +329,7 @@ pub fn passes(
 /// Starts the stream for a filter and a picture of these sides: sets the needed
 /// cells to zero. Whatever `state` holds, it becomes the started state, or after
 /// a refusal a state of zeros; refusals 1 to 5, then 8.
+#[must_use = "a number other than 0 is a refusal"]
 pub fn start(
     filter: &Filter,
     width: usize,
@@ -347,6 +356,7 @@ pub fn start(
 /// Gives the stream the next picture row and takes one grown row from it.
 /// `count` becomes the count of additions and subtractions; refusals 9, 10,
 /// then 6, 7, 8.
+#[must_use = "a number other than 0 is a refusal"]
 pub fn push(
     state: &mut State,
     pixels: &[u8],
@@ -375,6 +385,7 @@ pub fn push(
 
 /// Takes one grown row from the stream when all picture rows are in. `count`
 /// becomes the count of additions and subtractions; refusals 9, 10, then 7, 8.
+#[must_use = "a number other than 0 is a refusal"]
 pub fn drain(state: &mut State, out: &mut [u64], cells: &mut [u64], count: &mut u64) -> u8 {
     let state: *mut State = state;
     // SAFETY: each pointer and the length after it are those of one slice, and
@@ -394,6 +405,7 @@ pub fn drain(state: &mut State, out: &mut [u64], cells: &mut [u64], count: &mut 
 
 /// The greys of a row of sums (document 01: rounding), in an output of the same
 /// length; refusals 1 to 4, then 7, 11.
+#[must_use = "a number other than 0 is a refusal"]
 pub fn round(filter: &Filter, sums: &[u64], out: &mut [u8]) -> u8 {
     // SAFETY: each pointer and the length after it are those of one slice; the
     // one that is written is lent to this call alone.
@@ -411,6 +423,7 @@ pub fn round(filter: &Filter, sums: &[u64], out: &mut [u8]) -> u8 {
 /// The greys of the picture's own places (document 01: the same-size blur), in
 /// an output of exactly the picture's size and with work cells of at least twice
 /// the grown size; refusals 1 to 8.
+#[must_use = "a number other than 0 is a refusal"]
 pub fn blur(
     filter: &Filter,
     width: usize,
@@ -440,6 +453,7 @@ pub fn blur(
 /// output of exactly the picture's size and with work cells of at least twice
 /// both grown sizes together; refusals 1 to 4 of `a`, those of `b`, then 5 to 8,
 /// 12, 13.
+#[must_use = "a number other than 0 is a refusal"]
 pub fn difference(
     a: &Filter,
     b: &Filter,
@@ -468,6 +482,7 @@ pub fn difference(
 }
 
 /// The reading of the grey alone; refusals as for `sample`.
+#[must_use = "a number other than 0 is a refusal"]
 pub fn sample_gray(
     filter: &Filter,
     width: usize,
@@ -482,6 +497,7 @@ pub fn sample_gray(
 }
 
 /// The reading of the exact sum alone; refusals as for `sample`.
+#[must_use = "a number other than 0 is a refusal"]
 pub fn sample_sum(
     filter: &Filter,
     width: usize,
@@ -497,6 +513,7 @@ pub fn sample_sum(
 
 /// The reading of the quotient of sum and weight alone; refusals as for
 /// `sample`.
+#[must_use = "a number other than 0 is a refusal"]
 pub fn sample_mean(
     filter: &Filter,
     width: usize,
@@ -514,6 +531,7 @@ pub fn sample_mean(
 /// past the counts, or after a refusal a job of zeros; refusals 14 for fewer
 /// than 7 bytes, mark or version, 1, 14 for lists and sides cut short, 2 to 5,
 /// then 14 for any other length.
+#[must_use = "a number other than 0 is a refusal"]
 pub fn read_job(bytes: &[u8], job: &mut Job) -> u8 {
     let job: *mut Job = job;
     // SAFETY: the pointer and the length are those of one slice, and the blocks
@@ -529,11 +547,13 @@ pub fn read_job(bytes: &[u8], job: &mut Job) -> u8 {
 }
 
 /// The length of a job in bytes; refusals 1 to 5.
+#[must_use = "a number other than 0 is a refusal"]
 pub fn job_size(filter: &Filter, width: usize, height: usize, size: &mut usize) -> u8 {
     bore_job_size(filter, width, height, size)
 }
 
 /// The bytes of a job, in an output of exactly its length; refusals 1 to 7.
+#[must_use = "a number other than 0 is a refusal"]
 pub fn write_job(
     filter: &Filter,
     width: usize,

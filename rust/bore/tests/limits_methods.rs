@@ -9,6 +9,7 @@ use common::agree_stream::{start, without_sums, Call, Run};
 use common::causes::{first, from_bits, with_refusals};
 use common::lent::Lent;
 use common::pictures::{Picture, REFUSED};
+use common::values::fields_of_state;
 use common::{any_state, filter, refilled, Case};
 use reference::random::Random;
 
@@ -386,7 +387,7 @@ fn start_sets_just_the_needed_cells() {
     for more in [0, 1, 100] {
         let mut cells = vec![9; 20 + more];
         assert_eq!(bore::start(&both(), 5, 3, &mut cells, &mut state), 0);
-        assert_eq!(state, yielded(0));
+        assert_eq!(fields_of_state(&state), fields_of_state(&yielded(0)));
         assert_eq!(cells[..20], [0; 20]);
         assert_eq!(cells[20..], vec![9; more]);
     }

@@ -6,6 +6,7 @@
 use super::agree::number;
 use super::lent::Lent;
 use super::pictures::Picture;
+use super::values::fields_of_job;
 use super::{any_state, filter, Case};
 use bore::Job;
 use reference::random::Random;
@@ -61,7 +62,8 @@ fn read_back(bytes: &[u8], case: &Case, random: &mut Random, picture: &Picture) 
         height: picture.height,
         offset: bytes.len() - picture.pixels.len(),
     };
-    assert_eq!(job, expected, "read back, {case:?}");
+    let [found, expected] = [&job, &expected].map(fields_of_job);
+    assert_eq!(found, expected, "read back, {case:?}");
     let pixels = &bytes[job.offset..];
     assert!(pixels == picture.pixels, "pixels read back, {case:?}");
 }
@@ -79,7 +81,8 @@ pub fn read(random: &mut Random, bytes: &[u8]) -> u8 {
     let front = &bytes[..bytes.len().min(111)];
     let note = format_args!("job of {} bytes, {front:?}", bytes.len());
     assert_eq!(refusal, number(&expected), "{note}");
-    assert_eq!(found, left, "{note}");
+    let [fields, left] = [&found, &left].map(|jobs| jobs.each_ref().map(fields_of_job));
+    assert_eq!(fields, left, "{note}");
     given.has_to_be(&lent, "job", note);
     if refusal == 0 {
         written_again(bytes, &found[1]);

@@ -6,6 +6,7 @@
 use super::agree::number;
 use super::cells::after_call;
 use super::lent::Lent;
+use super::values::fields_of_state;
 use super::{any_state, filter, recipe_of, Case};
 use bore::State;
 use reference::random::Random;
@@ -86,7 +87,8 @@ pub fn start(
         let note = format_args!("start of {width} by {height} with {cells_len} cells, {case:?}");
         assert_eq!(refusal, number, "{note}");
         let left = if number == 0 { started } else { zeros() };
-        assert_eq!(state, left, "{note}");
+        let [fields, left] = [&state, &left].map(fields_of_state);
+        assert_eq!(fields, left, "{note}");
         found.has_to_be(&cells, "cells", note);
         state
     });
@@ -182,7 +184,9 @@ impl Run {
             let mut found = lent.clone();
             assert_eq!(found.call(state, call), number, "{note}");
             let emitted = called.state.yielded;
-            assert_eq!(*state, State { emitted, ..given }, "{note}");
+            let next = State { emitted, ..given };
+            let [fields, next] = [&*state, &next].map(fields_of_state);
+            assert_eq!(fields, next, "{note}");
             found.have_to_be(&left, note);
         }
         self.cells = left.cells;

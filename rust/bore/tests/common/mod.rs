@@ -8,7 +8,8 @@
 //! `agree_jobs` the calls on job files, which `job_parts` makes by parts and
 //! `any_jobs` at random. `accepted` has calls that have to be accepted for tests
 //! of their answers alone, `three` all three methods for tests of the sums
-//! alone, and `program` runs the program on an input.
+//! alone, `values` gives all that a filter, a state or a job holds, and `program`
+//! runs the program on an input.
 //!
 //! The environment sets the random cases: BORE_CASES is their number for each
 //! test, BORE_SEED the seed of the first; each case has the next seed. A test
@@ -33,6 +34,7 @@ pub mod pairs;
 pub mod pictures;
 pub mod program;
 pub mod three;
+pub mod values;
 
 use bore::{Cascade, Filter, State};
 use reference::random::Random;
