@@ -4,17 +4,21 @@
 //! list.
 
 mod lists;
+mod outcome;
 pub mod pgm;
 
 use bore::Filter;
-use lists::filter;
+use lists::{filter, list};
+use outcome::{accepted, end, refused, Outcome};
 use pgm::Pgm;
 use std::fs;
 use std::process::ExitCode;
 
+const USAGE: &str = "usage: make_job ROWS COLUMNS PICTURE.pgm OUT.job, as in: \
+    make_job 2,2 2,2 wall.pgm wall.job";
+
 /// The bytes of the job, or the refusal.
 pub fn job(filter: &Filter, picture: &Pgm) -> Result<Vec<u8>, u8> {
-    let accepted = |number: u8| if number == 0 { Ok(()) } else { Err(number) };
     let (width, height) = (picture.width, picture.height);
     let mut size = 0;
     accepted(bore::job_size(filter, width, height, &mut size))?;
@@ -30,38 +34,27 @@ pub fn job(filter: &Filter, picture: &Pgm) -> Result<Vec<u8>, u8> {
 }
 
 /// Makes the file; what to print, or what is wrong.
-fn make(filter: &Filter, from: &str, to: &str) -> Result<String, String> {
+fn make(filter: &Filter, from: &str, to: &str) -> Outcome {
     let bytes = fs::read(from).map_err(|error| format!("{from}: {error}"))?;
     let picture = pgm::read(&bytes);
     let picture = picture.ok_or(format!("{from}: no PGM picture with greys up to 255"))?;
-    let job = job(filter, &picture).map_err(|number| format!("refused {number}"))?;
+    let job = job(filter, &picture).map_err(refused)?;
     fs::write(to, &job).map_err(|error| format!("{to}: {error}"))?;
     let (width, height) = (picture.width, picture.height);
     Ok(format!("{to}: {width} by {height}, {} bytes", job.len()))
 }
 
+/// Does what the words of the command say.
+pub fn make_job(words: &[String]) -> Outcome {
+    let [rows, columns, from, to] = words else {
+        return Err(USAGE.to_string());
+    };
+    let [rows, columns] = [rows, columns].map(|text| list(text).ok_or(USAGE));
+    let filter = filter(&rows?, &columns?).map_err(refused)?;
+    make(&filter, from, to)
+}
+
 fn main() -> ExitCode {
     let words: Vec<String> = std::env::args().skip(1).collect();
-    let read = || {
-        let [rows, columns, from, to] = words.as_slice() else {
-            return None;
-        };
-        Some((filter(rows, columns)?, from, to))
-    };
-    let made = match read() {
-        None => Err("usage: make_job ROWS COLUMNS PICTURE.pgm OUT.job, as in: \
-             make_job 2,2 2,2 wall.pgm wall.job"
-            .to_string()),
-        Some((filter, from, to)) => make(&filter, from, to),
-    };
-    match made {
-        Ok(text) => {
-            println!("{text}");
-            ExitCode::SUCCESS
-        }
-        Err(text) => {
-            eprintln!("{text}");
-            ExitCode::FAILURE
-        }
-    }
+    end(make_job(&words))
 }

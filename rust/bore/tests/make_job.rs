@@ -13,9 +13,15 @@ use reference::Recipe;
 use std::fs;
 use std::path::Path;
 
-fn sample(name: &str) -> Vec<u8> {
+/// The path of a sample.
+fn path(name: &str) -> String {
     let folder = Path::new(env!("CARGO_MANIFEST_DIR")).join("../../jobs");
-    fs::read(folder.join(name)).expect("the sample can be read")
+    let path = folder.join(name);
+    path.to_str().expect("the path is text").to_string()
+}
+
+fn sample(name: &str) -> Vec<u8> {
+    fs::read(path(name)).expect("the sample can be read")
 }
 
 fn wall() -> Pgm {
@@ -77,6 +83,49 @@ fn files_that_are_no_such_picture() {
         let found = pgm::read(file).is_some();
         assert!(!found, "{}", String::from_utf8_lossy(file));
     }
+}
+
+/// The outcome for these words of the command.
+fn by_words(words: [&str; 4]) -> Result<String, String> {
+    make_job::make_job(&words.map(str::to_string))
+}
+
+#[test]
+fn the_file_is_written() {
+    let out = Path::new(env!("CARGO_TARGET_TMPDIR")).join("make_job.job");
+    let to = out.to_str().expect("the path is text");
+    let made = by_words(["2,2", "2,2", &path("wall.pgm"), to]);
+    assert_eq!(made, Ok(format!("{to}: 24 by 10, 255 bytes")));
+    let written = fs::read(&out).expect("the job can be read");
+    fs::remove_file(&out).expect("the job can be removed");
+    assert_eq!(written, sample("wall.job"));
+}
+
+/// What is wrong is said, and no file is written.
+#[test]
+fn no_file_is_written() {
+    let out = Path::new(env!("CARGO_TARGET_TMPDIR")).join("make_no_job.job");
+    let to = out.to_str().expect("the path is text");
+    let from = path("wall.pgm");
+    let long = vec!["1"; 49].join(",");
+    let too_long = "refused 1: a list is longer than 48 widths";
+    for (words, text) in [
+        ([&long, "-", &from, to], too_long),
+        (["-", &long, &from, to], too_long),
+        (["2,0", "-", &from, to], "refused 2: a width is 0"),
+        (["-", "255,3", &from, to], "refused 3: a reach is above 255"),
+        (["2,2", "256", &from, to], "usage: "),
+        (["x", &long, &from, to], "usage: "),
+        (["2,2", "2,2", &path("wall.job"), to], &path("wall.job")),
+        (["2,2", "2,2", &path("no.pgm"), to], &path("no.pgm")),
+    ] {
+        let found = by_words(words).expect_err("no job is made");
+        assert!(found.starts_with(text), "{found}");
+        assert!(!out.exists(), "{words:?}");
+    }
+    let words = ["2,2", "2,2", &from].map(str::to_string);
+    let found = make_job::make_job(&words).expect_err("a word is missing");
+    assert!(found.starts_with("usage: "), "{found}");
 }
 
 /// Sides and pixels are left to the library.

@@ -2,24 +2,18 @@
 
 use bore::{Cascade, Filter};
 
-fn cascade(text: &str) -> Option<Cascade> {
-    let mut list = Vec::new();
-    if text != "-" {
-        for word in text.split(',') {
-            list.push(word.parse::<u8>().ok()?);
-        }
+/// The widths, if every word is a number from 0 to 255.
+pub fn list(text: &str) -> Option<Vec<u8>> {
+    if text == "-" {
+        return Some(vec![]);
     }
-    let mut widths = [0; 48];
-    for (place, n) in widths.iter_mut().zip(&list) {
-        *place = *n;
-    }
-    let count = u8::try_from(list.len()).ok()?;
-    Some(Cascade { count, widths })
+    text.split(',').map(|word| word.parse().ok()).collect()
 }
 
-pub fn filter(rows: &str, columns: &str) -> Option<Filter> {
-    Some(Filter {
-        rows: cascade(rows)?,
-        columns: cascade(columns)?,
+/// The recipe of two lists, or the refusal of a list that is too long.
+pub fn filter(rows: &[u8], columns: &[u8]) -> Result<Filter, u8> {
+    Ok(Filter {
+        rows: Cascade::try_from(rows)?,
+        columns: Cascade::try_from(columns)?,
     })
 }
