@@ -21,7 +21,8 @@ pub use raw::{
 /// The widths of one axis (document 01: a row list or a column list). Only the
 /// first `count` of the 48 bytes have a meaning; a count above 48 is refused.
 /// Its 49 bytes are the block by which a list crosses to the library. It has no
-/// equality: lists that differ can be the same filter, as `equivalent` tells.
+/// equality: bytes past the count have no meaning, and lists that differ can be
+/// the same filter, which `equivalent` tells.
 #[derive(Clone, Copy, Debug)]
 #[repr(C)]
 pub struct Cascade {
@@ -39,7 +40,7 @@ impl Cascade {
 }
 
 /// A list of at most 48 widths, with zeros past them; a longer one is refused
-/// by 1.
+/// by 1, document 01's number for it.
 impl TryFrom<&[u8]> for Cascade {
     type Error = u8;
 

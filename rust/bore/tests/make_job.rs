@@ -105,6 +105,7 @@ fn the_file_is_written() {
 #[test]
 fn no_file_is_written() {
     let out = Path::new(env!("CARGO_TARGET_TMPDIR")).join("make_no_job.job");
+    fs::remove_file(&out).ok();
     let to = out.to_str().expect("the path is text");
     let from = path("wall.pgm");
     let long = vec!["1"; 49].join(",");

@@ -1,5 +1,5 @@
-//! What the wrapper does by itself, without a call of the library: a list made
-//! of widths, the widths of a list, and the words of the refusal numbers.
+//! What the wrapper does by itself: a list made of widths, the widths of a list,
+//! and the words of the refusal numbers.
 
 use bore::{refusal_text, Cascade, Filter};
 
