@@ -155,7 +155,7 @@ pub fn refusal_text(number: u8) -> &'static str {
         6 => "the pixels are not as many as the row or the picture has",
         7 => "an output has another length than the call asks for",
         8 => "there are fewer work cells than the call needs",
-        9 => "the state is none: its recipe or its sides would be refused, or too many rows are yielded",
+        9 => "not a state: its recipe or sides would be refused, or more rows are yielded than there are",
         10 => "a row when all are in, a drain before that, or a drain when all rows are out",
         11 => "a sum is above 255 times the weight",
         12 => "the reaches of the two recipes differ in parity on an axis",

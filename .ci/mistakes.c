@@ -1,0 +1,33 @@
+/* Mistakes of which a compiler warns by what bore.h tells it: each, alone, must not compile with -Werror.
+ * .ci/c defines MISTAKE as its number; 0 is none. */
+#include "bore.h"
+
+int main(void)
+{
+    bore_filter filter;
+    uint64_t out[3], cells[9];
+    uint8_t pixel[1] = {1};
+    uint8_t widths[3] = {2, 6, 6};
+    uint8_t number = bore_set_filter(&filter, widths, 3, NULL, 0);
+#if MISTAKE == 1 /* an output shorter than its length */
+    number |= bore_kernel(&filter.rows, out, 4);
+#elif MISTAKE == 2 /* a picture shorter than its length */
+    number |= bore_blur(&filter, 2, 1, pixel, 2, widths, 2, cells, 9);
+#elif MISTAKE == 3 /* three widths where 48 are read */
+    number |= bore_set_filter(&filter, widths, 48, NULL, 0);
+#elif MISTAKE == 4 /* no filter */
+    number |= bore_check(NULL);
+#elif MISTAKE == 5 /* a null pointer with a length */
+    number |= bore_kernel(&filter.rows, NULL, 3);
+#elif MISTAKE == 6 /* a list of bytes for a filter */
+    number |= bore_check(widths);
+#elif MISTAKE == 7 /* one buffer as output and as cells */
+    number |= bore_passes(&filter, 1, 1, pixel, 1, cells, 9, cells, 9);
+#elif MISTAKE == 8 /* a number that nobody looks at */
+    bore_check(&filter);
+#endif
+    number |= bore_kernel(&filter.rows, out, 3);
+    number |= bore_passes(&filter, 1, 1, pixel, 1, out, 3, cells, 9);
+    number |= bore_kernel(&filter.columns, NULL, 0);
+    return number;
+}
