@@ -4,7 +4,6 @@ ghost use Prim.Native.Nat.{_≤_};
 ghost use lib.ListN.{length, take};
 ghost use Rattle.console.specs.Buffer.{Appended};
 use bytes::copy;
-use libc::STDOUT_FILENO;
 use report::State;
 use report::head;
 use report::next;
@@ -28,7 +27,7 @@ fn flush(buffer: &[u8], count: usize) -> bool
     requires { ⌜ count ≤ length (now buffer) ⌝ }
 {
     let z: usize = 0;
-    io::write_all(STDOUT_FILENO, &buffer[z..count])
+    stdio::write_all(&buffer[z..count])
 }
 
 // Puts the first bytes of a text behind what waits, as many as `taken` says. Where they have no room,
@@ -107,7 +106,12 @@ fn print_rows(
 }
 
 // All of it, with room for the first line, the cells of the one pass and the buffer.
-fn print_all(job: &[u8], first: &mut [u8; 64], cells: &mut [u64; 8192], buffer: &mut [u8; 65536]) {
+fn print_all(
+    job: &[u8],
+    first: &mut [u8; 64],
+    cells: &mut [u64; 8192],
+    buffer: &mut [u8; 65536],
+) -> bool {
     let opened = open(job, cells);
     let length = head(opened, first);
     let waiting = append(first, length, buffer, 0);
@@ -122,16 +126,17 @@ fn print_all(job: &[u8], first: &mut [u8; 64], cells: &mut [u64; 8192], buffer: 
         buffer,
         waiting.count,
     );
-    if rows.is_written {
-        flush(buffer, rows.count);
+    if !rows.is_written {
+        return false;
     }
+    flush(buffer, rows.count)
 }
 
 // Prints what boresums prints for a job: its first line and a line for each grown row, or the line of
-// the refusal. It stops where a write fails.
-pub fn print_report(job: &[u8]) {
+// the refusal. Where a write fails it stops and answers false.
+pub fn print_report(job: &[u8]) -> bool {
     let mut first = [0u8; 64];
     let mut cells = [0u64; 8192];
     let mut buffer = [0u8; 65536];
-    print_all(job, &mut first, &mut cells, &mut buffer);
+    print_all(job, &mut first, &mut cells, &mut buffer)
 }

@@ -49,11 +49,11 @@ part-print-rows-end c = search needs
 print-rows-requires : tie.Need-print-rows-requires
 print-rows-requires c κs = search needs
 
-flush-requires : tie.Need-flush-requires
-flush-requires c κs = search needs
-
 returns : tie.Need-returns
 returns c = search needs
+
+flush-requires : tie.Need-flush-requires
+flush-requires c κs = search needs
 
 returns-2 : tie.Need-returns-2
 returns-2 c = search needs
@@ -69,6 +69,6 @@ print-all-spec =
     part-print-rows-start
     part-print-rows-end
     print-rows-requires
-    flush-requires
     returns
+    flush-requires
     returns-2)

@@ -19,7 +19,7 @@ pub enum Way {
     File(&'static str),
 }
 
-fn program() -> PathBuf {
+pub fn program() -> PathBuf {
     let path = Path::new(env!("CARGO_MANIFEST_DIR")).join("../../target/bin/boresums");
     assert!(
         path.exists(),

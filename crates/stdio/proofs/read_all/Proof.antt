@@ -1,12 +1,12 @@
--- `boresums::read_all` meets its contract. The invariant: what is read lies within the bytes, which are as many as before. The measure is
+-- `stdio::read_all` meets its contract. The invariant: what is read lies within the bytes, which are as many as before. The measure is
 -- what is left of them, and each turn that goes on reads one or more.
 -- Assumes nothing.
 use mathlib.Core.Path.{_≡_}
 use Prim.Native.Nat.{_-_, _≤_}
 use borrow.Author.Needs.{needs}
 use lib.ListN.{length}
-use Rattle.boresums.proofs.read_all.Statement.{statement}
-use Rattle.boresums.proofs.read_all.Tie as tie
+use Rattle.stdio.proofs.read_all.Statement.{statement}
+use Rattle.stdio.proofs.read_all.Tie as tie
 
 abbrev Inv-loop : tie.InvT-loop
 Inv-loop bytes₀ end count₀ bytes count = (length bytes ≡ length bytes₀) × (end ≡ length bytes₀) × (count ≤ end)
@@ -17,35 +17,23 @@ abbrev μ-loop : tie.MeasureT-loop
 loop-holds : tie.Need-loop-holds Inv-loop μ-loop
 loop-holds c = search needs
 
-sub-read : tie.Need-sub-read Inv-loop μ-loop
-sub-read c = search needs
+sub-read-some : tie.Need-sub-read-some Inv-loop μ-loop
+sub-read-some c = search needs
 
-part-read-start : tie.Need-part-read-start Inv-loop μ-loop
-part-read-start c = search needs
+part-read-some-start : tie.Need-part-read-some-start Inv-loop μ-loop
+part-read-some-start c = search needs
 
-part-read-end : tie.Need-part-read-end Inv-loop μ-loop
-part-read-end c = search needs
+part-read-some-end : tie.Need-part-read-some-end Inv-loop μ-loop
+part-read-some-end c = search needs
 
-read-requires : tie.Need-read-requires Inv-loop μ-loop
-read-requires c κs = search needs
+read-some-requires : tie.Need-read-some-requires Inv-loop μ-loop
+read-some-requires c κs = search needs
 
 same-length : tie.Need-same-length Inv-loop μ-loop
 same-length c = search needs
 
 returns : tie.Need-returns Inv-loop μ-loop
 returns c = search needs
-
-sub-count : tie.Need-sub-count Inv-loop μ-loop
-sub-count c = search needs
-
-part-count-start : tie.Need-part-count-start Inv-loop μ-loop
-part-count-start c = search needs
-
-part-count-end : tie.Need-part-count-end Inv-loop μ-loop
-part-count-end c = search needs
-
-count-requires : tie.Need-count-requires Inv-loop μ-loop
-count-requires c κs = search needs
 
 add-count : tie.Need-add-count Inv-loop μ-loop
 add-count c = search needs
@@ -75,16 +63,12 @@ read-all-spec =
     Inv-loop
     μ-loop
     loop-holds
-    sub-read
-    part-read-start
-    part-read-end
-    read-requires
+    sub-read-some
+    part-read-some-start
+    part-read-some-end
+    read-some-requires
     same-length
     returns
-    sub-count
-    part-count-start
-    part-count-end
-    count-requires
     add-count
     loop-less
     loop-again
