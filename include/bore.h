@@ -152,10 +152,16 @@ BORE_STATIC_ASSERT(state_words, sizeof(bore_state_words) == 24);
 BORE_STATIC_ASSERT(state_width, offsetof(bore_state_words, width) == 0);
 BORE_STATIC_ASSERT(state_height, offsetof(bore_state_words, height) == 8);
 BORE_STATIC_ASSERT(state_emitted, offsetof(bore_state_words, emitted) == 16);
+BORE_STATIC_ASSERT(state, sizeof(bore_state) == 128);
+BORE_STATIC_ASSERT(state_filter, offsetof(bore_state, filter) == 0);
+BORE_STATIC_ASSERT(state_of_words, offsetof(bore_state, words) == 104);
 BORE_STATIC_ASSERT(job_words, sizeof(bore_job_words) == 24);
 BORE_STATIC_ASSERT(job_width, offsetof(bore_job_words, width) == 0);
 BORE_STATIC_ASSERT(job_height, offsetof(bore_job_words, height) == 8);
 BORE_STATIC_ASSERT(job_offset, offsetof(bore_job_words, offset) == 16);
+BORE_STATIC_ASSERT(job, sizeof(bore_job) == 128);
+BORE_STATIC_ASSERT(job_filter, offsetof(bore_job, filter) == 0);
+BORE_STATIC_ASSERT(job_of_words, offsetof(bore_job, words) == 104);
 
 /* Fills a cascade from a slice of widths, with zeros past them. Refuses more than 48 widths by 1 and then
  * writes nothing; what the widths are is for bore_check to say. */
@@ -190,52 +196,70 @@ static inline BORE_CALL bore_set_filter(bore_filter *filter, const uint8_t *rows
     return bore_set_cascade(&filter->columns, columns, columns_len);
 }
 
+/* Each comment below says what a call takes, the numbers by which it refuses, in their order, what it writes
+ * where it is accepted, and which of its arguments may not overlap any other. */
+
 /* ---- Calls on a filter ---- */
 
 /* Whether a filter is accepted.
- * Refuses: 1, 2, 3, 4. Writes nothing. */
+ * Takes: a filter.
+ * Refuses: 1, 2, 3, 4.
+ * Writes: nothing. */
 BORE_NONNULL(1)
 BORE_CALL bore_check(const bore_filter *block);
 
 /* The coefficients of one cascade.
+ * Takes: a cascade, and room for its coefficients.
  * Refuses: 1, 2, 3, 4 for the cascade with none on the other axis; 7 unless out_len is its order + 1.
- * Writes: all of out. */
+ * Writes: all of out.
+ * Overlaps nothing: out. */
 BORE_NONNULL(1) BORE_WRITES(2, 3)
 BORE_CALL bore_kernel(const bore_cascade *list, uint64_t *BORE_RESTRICT out, size_t out_len);
 
 /* The sides of the grown picture.
+ * Takes: a filter and the sides of a picture.
  * Refuses: 1, 2, 3, 4; 5 unless both sides are from 1 to 1,024.
- * Writes: full_width and full_height. */
+ * Writes: full_width and full_height.
+ * Overlaps nothing: full_width, full_height. */
 BORE_NONNULL(1, 4, 5)
 BORE_CALL bore_full_size(const bore_filter *block, size_t width, size_t height,
                          size_t *BORE_RESTRICT full_width, size_t *BORE_RESTRICT full_height);
 
-/* How many work cells the stream needs for pictures of a width.
+/* How many work cells the stream needs.
+ * Takes: a filter and the width of a picture.
  * Refuses: 1, 2, 3, 4; 5 unless the width is from 1 to 1,024.
- * Writes: cells. */
+ * Writes: cells.
+ * Overlaps nothing: cells. */
 BORE_NONNULL(1, 3)
 BORE_CALL bore_stream_cells(const bore_filter *block, size_t width, size_t *BORE_RESTRICT cells);
 
-/* The scale card: the weight, the order and the variance of each axis.
+/* The scale card: the weight, and the order and the variance of each axis.
+ * Takes: a filter.
  * Refuses: 1, 2, 3, 4.
- * Writes: all five values. */
+ * Writes: all five values.
+ * Overlaps nothing: weight, row_order, column_order, row_variance, column_variance. */
 BORE_NONNULL(1, 2, 3, 4, 5, 6)
 BORE_CALL bore_moments(const bore_filter *block, uint64_t *BORE_RESTRICT weight,
                        size_t *BORE_RESTRICT row_order, size_t *BORE_RESTRICT column_order,
                        double *BORE_RESTRICT row_variance, double *BORE_RESTRICT column_variance);
 
 /* Whether two filters are the same: whether on every picture they give the same grown size, weight and sums.
- * Refuses: 1, 2, 3, 4 of a; then 1, 2, 3, 4 of b.
- * Writes: same, 1 where they are and else 0. */
+ * Takes: two filters.
+ * Refuses: 1, 2, 3, 4 of a; 1, 2, 3, 4 of b.
+ * Writes: same, 1 where they are and else 0.
+ * Overlaps nothing: same. */
 BORE_NONNULL(1, 2, 3)
 BORE_CALL bore_equivalent(const bore_filter *a, const bore_filter *b, uint8_t *BORE_RESTRICT same);
 
 /* ---- All sums of a picture ---- */
 
 /* Every exact sum as it is defined.
- * Refuses: 1, 2, 3, 4, 5; 6 unless pixels_len is width times height; 7 unless row_kernel_len is the rows'
- * order + 1, column_kernel_len the columns' order + 1, and out_len the grown size.
- * Writes: both lists of coefficients, and all sums into out. */
+ * Takes: a filter, a picture, room for the coefficients of both axes and for the sums.
+ * Refuses: 1, 2, 3, 4; 5 unless both sides are from 1 to 1,024; 6 unless pixels_len is width times height;
+ * 7 unless row_kernel_len is the rows' order + 1, column_kernel_len the columns' order + 1, and out_len the
+ * grown size.
+ * Writes: the coefficients of both axes, and all sums into out.
+ * Overlaps nothing: row_kernel, column_kernel, out. */
 BORE_NONNULL(1) BORE_READS(4, 5) BORE_WRITES(6, 7) BORE_WRITES(8, 9) BORE_WRITES(10, 11)
 BORE_CALL bore_direct(const bore_filter *block, size_t width, size_t height,
                       const uint8_t *pixels, size_t pixels_len,
@@ -244,10 +268,12 @@ BORE_CALL bore_direct(const bore_filter *block, size_t width, size_t height,
                       uint64_t *BORE_RESTRICT out, size_t out_len);
 
 /* The same sums, width after width over the whole grown picture.
- * Refuses: 1, 2, 3, 4, 5; 6 unless pixels_len is width times height; 7 unless out_len is the grown size;
- * 8 where cells_len is below the grown size.
+ * Takes: a filter, a picture, room for the sums, and work cells.
+ * Refuses: 1, 2, 3, 4; 5 unless both sides are from 1 to 1,024; 6 unless pixels_len is width times height;
+ * 7 unless out_len is the grown size; 8 where cells_len is below the grown size.
  * Writes: all sums into out. The first cells, as many as the grown size, then hold anything; those beyond
- * are left. */
+ * are left.
+ * Overlaps nothing: out, cells. */
 BORE_NONNULL(1) BORE_READS(4, 5) BORE_WRITES(6, 7) BORE_WRITES(8, 9)
 BORE_CALL bore_passes(const bore_filter *block, size_t width, size_t height,
                       const uint8_t *pixels, size_t pixels_len,
@@ -259,24 +285,28 @@ BORE_CALL bore_passes(const bore_filter *block, size_t width, size_t height,
  * After an accepted bore_start, `height` calls of bore_push, each with the next row of the picture, and then
  * as many of bore_drain as the columns' order yield the grown rows from the first to the last. Each call gets
  * the state and the cells as the one before left them; a refused call in between changes neither. With a state
- * or cells that were altered by others a call is as safe, and its sums are not those of the picture. */
+ * or cells that others have altered a call is as safe, and its sums need not be those of the picture. */
 
 /* Starts the stream: sets the needed cells to zero and fills in the state.
- * Refuses: 1, 2, 3, 4, 5; 8 where cells_len is below what bore_stream_cells tells.
- * Writes: the needed cells, all of state and words. Cells beyond the needed ones are left. A refusal leaves
- * the cells, and writes a state of zeros, which the next call refuses by 9. The block may not be the state's
- * own filter: copy that first. */
+ * Takes: a filter, the sides of a picture, work cells, and a state, as its filter and its words.
+ * Refuses: 1, 2, 3, 4; 5 unless both sides are from 1 to 1,024; 8 where cells_len is below what
+ * bore_stream_cells tells.
+ * Writes: the needed cells, all of state and words; cells beyond the needed ones are left. A refusal leaves
+ * the cells and writes a state of zeros, which the next call refuses by 9.
+ * Overlaps nothing: cells, state, words. So the block is not the state's own filter: copy that first. */
 BORE_NONNULL(1, 6, 7) BORE_WRITES(4, 5)
 BORE_CALL bore_start(const bore_filter *block, size_t width, size_t height,
                      uint64_t *BORE_RESTRICT cells, size_t cells_len,
                      bore_filter *BORE_RESTRICT state, bore_state_words *BORE_RESTRICT words);
 
-/* Takes the next row of the picture and yields a grown row.
+/* Takes in the next row of the picture and yields a grown row.
+ * Takes: a state, the row, room for the grown row, and the cells.
  * Refuses: 9 for a state whose filter or sides would be refused, or with more rows yielded than the grown
  * height; 10 where all rows of the picture are in; 6 unless pixels_len is the width; 7 unless out_len is the
  * grown width; 8 where cells_len is below what bore_stream_cells tells.
- * Writes: the grown row into out, the needed cells, words, and the count of additions and subtractions. Cells
- * beyond the needed ones are left. A refusal writes the count, 0, and leaves words, out and cells. */
+ * Writes: the grown row into out, the needed cells, words, and the count of additions and subtractions; cells
+ * beyond the needed ones are left. A refusal writes the count, 0, and leaves words, out and cells.
+ * Overlaps nothing: words, out, cells, count. */
 BORE_NONNULL(1, 2, 9) BORE_READS(3, 4) BORE_WRITES(5, 6) BORE_UPDATES(7, 8)
 BORE_CALL bore_push(const bore_filter *state, bore_state_words *BORE_RESTRICT words,
                     const uint8_t *pixels, size_t pixels_len,
@@ -284,9 +314,11 @@ BORE_CALL bore_push(const bore_filter *state, bore_state_words *BORE_RESTRICT wo
                     uint64_t *BORE_RESTRICT cells, size_t cells_len, uint64_t *BORE_RESTRICT count);
 
 /* Yields a grown row when all rows of the picture are in, as if a black one had come.
- * Refuses: 9 as bore_push does; 10 before the last row of the picture and after the last grown one; 7 unless
- * out_len is the grown width; 8 where cells_len is below what bore_stream_cells tells.
- * Writes: as bore_push does. */
+ * Takes: a state, room for the grown row, and the cells.
+ * Refuses: 9 as bore_push does; 10 before the last row of the picture is in and after the last grown row is
+ * out; 7 unless out_len is the grown width; 8 where cells_len is below what bore_stream_cells tells.
+ * Writes: as bore_push does.
+ * Overlaps nothing: words, out, cells, count. */
 BORE_NONNULL(1, 2, 7) BORE_WRITES(3, 4) BORE_UPDATES(5, 6)
 BORE_CALL bore_drain(const bore_filter *state, bore_state_words *BORE_RESTRICT words,
                      uint64_t *BORE_RESTRICT out, size_t out_len,
@@ -295,18 +327,22 @@ BORE_CALL bore_drain(const bore_filter *state, bore_state_words *BORE_RESTRICT w
 /* ---- Greys, differences and readings ---- */
 
 /* The greys of a row of sums: each sum over the weight, rounded to the nearest, a half upwards.
+ * Takes: a filter, the sums, and room for the greys.
  * Refuses: 1, 2, 3, 4; 7 unless out_len is sums_len; 11 where a sum is above 255 times the weight.
- * Writes: all of out. */
+ * Writes: all of out.
+ * Overlaps nothing: out. */
 BORE_NONNULL(1) BORE_READS(2, 3) BORE_WRITES(4, 5)
 BORE_CALL bore_round(const bore_filter *block, const uint64_t *sums, size_t sums_len,
                      uint8_t *BORE_RESTRICT out, size_t out_len);
 
 /* The picture blurred in its own size: at column x and row y the grey of the grown sum at x plus half the
  * rows' order and y plus half the columns' order, both halves downwards.
- * Refuses: 1, 2, 3, 4, 5; 6 unless pixels_len is width times height; 7 unless out_len is width times height;
- * 8 where cells_len is below twice the grown size.
+ * Takes: a filter, a picture, room for the greys, and work cells.
+ * Refuses: 1, 2, 3, 4; 5 unless both sides are from 1 to 1,024; 6 unless pixels_len is width times height;
+ * 7 unless out_len is width times height; 8 where cells_len is below twice the grown size.
  * Writes: all of out. The first cells, twice the grown size of them, then hold anything; those beyond are
- * left. */
+ * left.
+ * Overlaps nothing: out, cells. */
 BORE_NONNULL(1) BORE_READS(4, 5) BORE_WRITES(6, 7) BORE_WRITES(8, 9)
 BORE_CALL bore_blur(const bore_filter *block, size_t width, size_t height,
                     const uint8_t *pixels, size_t pixels_len,
@@ -315,34 +351,44 @@ BORE_CALL bore_blur(const bore_filter *block, size_t width, size_t height,
 
 /* At each place of the picture the sum of a over its weight less the sum of b over its weight, rounded once
  * to the nearest, a half away from zero: from -255 to 255.
- * Refuses: 1, 2, 3, 4 of a; 1, 2, 3, 4 of b; 5; 6 unless pixels_len is width times height; 7 unless out_len
- * is width times height; 8 where cells_len is below twice both grown sizes together; 12 where the orders
- * differ in parity on an axis; 13 where the product of the weights is above 2^44.
+ * Takes: two filters, a picture, room for the differences, and work cells.
+ * Refuses: 1, 2, 3, 4 of a; 1, 2, 3, 4 of b; 5 unless both sides are from 1 to 1,024; 6 unless pixels_len is
+ * width times height; 7 unless out_len is width times height; 8 where cells_len is below twice both grown
+ * sizes together; 12 where the orders differ in parity on an axis; 13 where the product of the weights is
+ * above 2^44.
  * Writes: all of out. The first cells, twice both grown sizes of them, then hold anything; those beyond are
- * left. */
+ * left.
+ * Overlaps nothing: out, cells. */
 BORE_NONNULL(1, 2) BORE_READS(5, 6) BORE_WRITES(7, 8) BORE_WRITES(9, 10)
 BORE_CALL bore_difference(const bore_filter *a, const bore_filter *b, size_t width, size_t height,
                           const uint8_t *pixels, size_t pixels_len,
                           int16_t *BORE_RESTRICT out, size_t out_len,
                           uint64_t *BORE_RESTRICT cells, size_t cells_len);
 
-/* The grey that bore_blur gives at one place of the picture, its column and row from 0.
- * Refuses: 1, 2, 3, 4, 5; 6 unless pixels_len is width times height; 15 for a place outside the picture.
- * Writes: gray. */
+/* The grey that bore_blur gives at one place.
+ * Takes: a filter, a picture, and a column and a row of it, counted from 0.
+ * Refuses: 1, 2, 3, 4; 5 unless both sides are from 1 to 1,024; 6 unless pixels_len is width times height;
+ * 15 for a place outside the picture.
+ * Writes: gray.
+ * Overlaps nothing: gray. */
 BORE_NONNULL(1, 8) BORE_READS(4, 5)
 BORE_CALL bore_sample_gray(const bore_filter *block, size_t width, size_t height,
                            const uint8_t *pixels, size_t pixels_len,
                            size_t column, size_t row, uint8_t *BORE_RESTRICT gray);
 
-/* The exact sum that bore_blur rounds there. Refuses as bore_sample_gray does.
- * Writes: sum. */
+/* The exact sum that bore_blur rounds at one place.
+ * Takes and refuses: as bore_sample_gray does.
+ * Writes: sum.
+ * Overlaps nothing: sum. */
 BORE_NONNULL(1, 8) BORE_READS(4, 5)
 BORE_CALL bore_sample_sum(const bore_filter *block, size_t width, size_t height,
                           const uint8_t *pixels, size_t pixels_len,
                           size_t column, size_t row, uint64_t *BORE_RESTRICT sum);
 
-/* The quotient of that sum and the weight, in one rounded division. Refuses as bore_sample_gray does.
- * Writes: mean. */
+/* The quotient of that sum and the weight, by one rounded division.
+ * Takes and refuses: as bore_sample_gray does.
+ * Writes: mean.
+ * Overlaps nothing: mean. */
 BORE_NONNULL(1, 8) BORE_READS(4, 5)
 BORE_CALL bore_sample_mean(const bore_filter *block, size_t width, size_t height,
                            const uint8_t *pixels, size_t pixels_len,
@@ -351,23 +397,29 @@ BORE_CALL bore_sample_mean(const bore_filter *block, size_t width, size_t height
 /* ---- Job files ---- */
 
 /* What a job file says.
+ * Takes: the bytes of the file, and a job, as its filter and its words.
  * Refuses: 14 for fewer than 7 bytes, another mark or another version; 1; 14 where lists or sides are cut
  * short; 2, 3, 4, 5; 14 for any other length.
- * Writes: all of block and words, with zeros past the counts. A refusal writes zeros throughout. */
+ * Writes: all of block and words, with zeros past the counts. A refusal writes zeros throughout.
+ * Overlaps nothing: block, words. */
 BORE_NONNULL(3, 4) BORE_READS(1, 2)
 BORE_CALL bore_read_job(const uint8_t *bytes, size_t bytes_len, bore_filter *BORE_RESTRICT block,
                         bore_job_words *BORE_RESTRICT words);
 
 /* The length of a job file in bytes.
- * Refuses: 1, 2, 3, 4, 5.
- * Writes: size. */
+ * Takes: a filter and the sides of a picture.
+ * Refuses: 1, 2, 3, 4; 5 unless both sides are from 1 to 1,024.
+ * Writes: size.
+ * Overlaps nothing: size. */
 BORE_NONNULL(1, 4)
 BORE_CALL bore_job_size(const bore_filter *block, size_t width, size_t height, size_t *BORE_RESTRICT size);
 
 /* The bytes of a job file.
- * Refuses: 1, 2, 3, 4, 5; 6 unless pixels_len is width times height; 7 unless out_len is what bore_job_size
- * tells.
- * Writes: all of out. */
+ * Takes: a filter, a picture, and room for the file.
+ * Refuses: 1, 2, 3, 4; 5 unless both sides are from 1 to 1,024; 6 unless pixels_len is width times height;
+ * 7 unless out_len is what bore_job_size tells.
+ * Writes: all of out.
+ * Overlaps nothing: out. */
 BORE_NONNULL(1) BORE_READS(4, 5) BORE_WRITES(6, 7)
 BORE_CALL bore_write_job(const bore_filter *block, size_t width, size_t height,
                          const uint8_t *pixels, size_t pixels_len,

@@ -317,6 +317,34 @@ fn the_compiler_is_told_of_every_pointer() {
     }
 }
 
+/// The parameters that a comment says overlap nothing else.
+fn apart(comment: &str) -> Vec<String> {
+    let line = comment
+        .lines()
+        .find_map(|line| line.strip_prefix(" * Overlaps nothing: "));
+    let names = line.map_or("", |line| line.split(['.', '*']).next().unwrap_or(""));
+    listed(names)
+}
+
+/// The comment before each declaration names all that the call can write, and
+/// has the other parts.
+#[test]
+fn a_comment_stands_at_every_call() {
+    let text = text(HEADER);
+    for (name, function) in &header(&text) {
+        let declaration = format!("\nBORE_CALL {name}(");
+        let (before, _) = text.split_once(&declaration).expect("it is declared");
+        let (_, comment) = before.rsplit_once("/* ").expect("a comment comes before");
+        let written = function.parameters.iter();
+        let written = written.filter(|(_, kind)| kind.starts_with("&mut "));
+        let written: Vec<String> = written.map(|(name, _)| name.clone()).collect();
+        assert_eq!(apart(comment), written, "{name}");
+        for part in ["Takes", "efuses: ", " * Writes: "] {
+            assert!(comment.contains(part), "{name}: {part}");
+        }
+    }
+}
+
 /// The number and the words of each line of the header's `bore_refusal_text`.
 fn words_of_header() -> Vec<(u8, String)> {
     let text = text(HEADER);
