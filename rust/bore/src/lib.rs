@@ -10,7 +10,9 @@
 
 #![deny(unsafe_code)]
 
-mod raw;
+/// The library's functions as they are, for callers that need pointers, and a
+/// safe form of each.
+pub mod raw;
 
 pub use raw::{
     blur, check, difference, direct, drain, equivalent, full_size, job_size, kernel, moments,

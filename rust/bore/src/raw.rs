@@ -1,5 +1,5 @@
 //! The declarations of the static library's functions, and a safe form of
-//! each. No other file has unsafe code.
+//! each. No other file of this crate has unsafe code, its tests apart.
 //!
 //! The test tests/declarations.rs compares these declarations with the library's
 //! source: each has to be equal to the exported function, argument by argument.
@@ -22,7 +22,7 @@ const _: () = assert!(offset_of!(Filter, rows) == 0 && offset_of!(Filter, column
 
 /// The words of a state or of a job that was read: width, height, and rows
 /// yielded or the offset of the pixels. They are the fields from the width on.
-type Words = [usize; 3];
+pub type Words = [usize; 3];
 
 const WORD: usize = size_of::<usize>();
 const _: () = assert!(offset_of!(State, height) == offset_of!(State, width) + WORD);
@@ -30,13 +30,16 @@ const _: () = assert!(offset_of!(State, emitted) == offset_of!(State, width) + 2
 const _: () = assert!(offset_of!(Job, height) == offset_of!(Job, width) + WORD);
 const _: () = assert!(offset_of!(Job, offset) == offset_of!(Job, width) + 2 * WORD);
 
-// The library filter_c.
+// The crate filter_c.
 unsafe extern "C" {
-    safe fn bore_check(block: &Filter) -> u8;
+    #[must_use = "a number other than 0 is a refusal"]
+    pub safe fn bore_check(block: &Filter) -> u8;
 
-    fn bore_kernel(list: &Cascade, out: *mut u64, out_len: usize) -> u8;
+    #[must_use = "a number other than 0 is a refusal"]
+    pub fn bore_kernel(list: &Cascade, out: *mut u64, out_len: usize) -> u8;
 
-    safe fn bore_full_size(
+    #[must_use = "a number other than 0 is a refusal"]
+    pub safe fn bore_full_size(
         block: &Filter,
         width: usize,
         height: usize,
@@ -44,9 +47,11 @@ unsafe extern "C" {
         full_height: &mut usize,
     ) -> u8;
 
-    safe fn bore_stream_cells(block: &Filter, width: usize, cells: &mut usize) -> u8;
+    #[must_use = "a number other than 0 is a refusal"]
+    pub safe fn bore_stream_cells(block: &Filter, width: usize, cells: &mut usize) -> u8;
 
-    safe fn bore_moments(
+    #[must_use = "a number other than 0 is a refusal"]
+    pub safe fn bore_moments(
         block: &Filter,
         weight: &mut u64,
         row_order: &mut usize,
@@ -55,12 +60,14 @@ unsafe extern "C" {
         column_variance: &mut f64,
     ) -> u8;
 
-    safe fn bore_equivalent(a: &Filter, b: &Filter, same: &mut u8) -> u8;
+    #[must_use = "a number other than 0 is a refusal"]
+    pub safe fn bore_equivalent(a: &Filter, b: &Filter, same: &mut u8) -> u8;
 }
 
-// The library sums_c.
+// The crate sums_c.
 unsafe extern "C" {
-    fn bore_direct(
+    #[must_use = "a number other than 0 is a refusal"]
+    pub fn bore_direct(
         block: &Filter,
         width: usize,
         height: usize,
@@ -74,7 +81,8 @@ unsafe extern "C" {
         out_len: usize,
     ) -> u8;
 
-    fn bore_passes(
+    #[must_use = "a number other than 0 is a refusal"]
+    pub fn bore_passes(
         block: &Filter,
         width: usize,
         height: usize,
@@ -86,7 +94,8 @@ unsafe extern "C" {
         cells_len: usize,
     ) -> u8;
 
-    fn bore_start(
+    #[must_use = "a number other than 0 is a refusal"]
+    pub fn bore_start(
         block: &Filter,
         width: usize,
         height: usize,
@@ -96,7 +105,8 @@ unsafe extern "C" {
         words: *mut Words,
     ) -> u8;
 
-    fn bore_push(
+    #[must_use = "a number other than 0 is a refusal"]
+    pub fn bore_push(
         state: *const Filter,
         words: *mut Words,
         pixels: *const u8,
@@ -108,7 +118,8 @@ unsafe extern "C" {
         count: &mut u64,
     ) -> u8;
 
-    fn bore_drain(
+    #[must_use = "a number other than 0 is a refusal"]
+    pub fn bore_drain(
         state: *const Filter,
         words: *mut Words,
         out: *mut u64,
@@ -119,9 +130,10 @@ unsafe extern "C" {
     ) -> u8;
 }
 
-// The library gray_c.
+// The crate gray_c.
 unsafe extern "C" {
-    fn bore_round(
+    #[must_use = "a number other than 0 is a refusal"]
+    pub fn bore_round(
         block: &Filter,
         sums: *const u64,
         sums_len: usize,
@@ -129,7 +141,8 @@ unsafe extern "C" {
         out_len: usize,
     ) -> u8;
 
-    fn bore_blur(
+    #[must_use = "a number other than 0 is a refusal"]
+    pub fn bore_blur(
         block: &Filter,
         width: usize,
         height: usize,
@@ -141,7 +154,8 @@ unsafe extern "C" {
         cells_len: usize,
     ) -> u8;
 
-    fn bore_difference(
+    #[must_use = "a number other than 0 is a refusal"]
+    pub fn bore_difference(
         a: &Filter,
         b: &Filter,
         width: usize,
@@ -154,7 +168,8 @@ unsafe extern "C" {
         cells_len: usize,
     ) -> u8;
 
-    fn bore_sample_gray(
+    #[must_use = "a number other than 0 is a refusal"]
+    pub fn bore_sample_gray(
         block: &Filter,
         width: usize,
         height: usize,
@@ -165,7 +180,8 @@ unsafe extern "C" {
         gray: &mut u8,
     ) -> u8;
 
-    fn bore_sample_sum(
+    #[must_use = "a number other than 0 is a refusal"]
+    pub fn bore_sample_sum(
         block: &Filter,
         width: usize,
         height: usize,
@@ -176,7 +192,8 @@ unsafe extern "C" {
         sum: &mut u64,
     ) -> u8;
 
-    fn bore_sample_mean(
+    #[must_use = "a number other than 0 is a refusal"]
+    pub fn bore_sample_mean(
         block: &Filter,
         width: usize,
         height: usize,
@@ -188,18 +205,21 @@ unsafe extern "C" {
     ) -> u8;
 }
 
-// The library job_c.
+// The crate job_c.
 unsafe extern "C" {
-    fn bore_read_job(
+    #[must_use = "a number other than 0 is a refusal"]
+    pub fn bore_read_job(
         bytes: *const u8,
         bytes_len: usize,
         block: *mut Filter,
         words: *mut Words,
     ) -> u8;
 
-    safe fn bore_job_size(block: &Filter, width: usize, height: usize, size: &mut usize) -> u8;
+    #[must_use = "a number other than 0 is a refusal"]
+    pub safe fn bore_job_size(block: &Filter, width: usize, height: usize, size: &mut usize) -> u8;
 
-    fn bore_write_job(
+    #[must_use = "a number other than 0 is a refusal"]
+    pub fn bore_write_job(
         block: &Filter,
         width: usize,
         height: usize,

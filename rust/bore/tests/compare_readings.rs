@@ -6,32 +6,10 @@
 mod common;
 
 use common::agree_greys;
-use common::pictures::{larger_picture, picture_filter, pictured, repaint, some_places, Picture};
+use common::pictures::{any_place, larger_picture, past, picture_filter, pictured, repaint};
+use common::pictures::{some_places, Picture};
 use common::{count, each_seed, meets, Case};
 use reference::random::Random;
-
-/// A place past the end of a side. Past the end of a row it has the index of a
-/// place in a later row.
-fn past(random: &mut Random, side: usize) -> usize {
-    let near = side.saturating_add(random.between(0, 40));
-    let far = side.saturating_add(random.word() as usize);
-    random.one_of(&[side, side, near, far, 1 << 32, 1 << 63, usize::MAX])
-}
-
-/// A place of which one in eight is outside the picture.
-fn any_place(random: &mut Random, picture: &Picture) -> (usize, usize) {
-    let [column, row] = [picture.width, picture.height].map(|side| match side {
-        // A refused side may be 0.
-        0 => 0,
-        _ => random.between(0, side - 1),
-    });
-    match random.between(0, 23) {
-        0 => (past(random, picture.width), row),
-        1 => (column, past(random, picture.height)),
-        2 => (past(random, picture.width), past(random, picture.height)),
-        _ => (column, row),
-    }
-}
 
 /// The case of a seed with a picture and a place.
 fn placed(seed: u64) -> (Case, Random, Picture, (usize, usize)) {

@@ -8,9 +8,9 @@ mod common;
 use bore::State;
 use common::agree_stream::{start, state_of, without_sums, Call, Run};
 use common::lent::Lent;
+use common::pictures::picture_case;
 use common::pictures::{accepted_sides, any_cells, any_length, any_sides};
-use common::pictures::{picture_case, refused_side};
-use common::{count, damage, each_seed, meets, recipe_of, refilled, Case};
+use common::{count, damage_state, each_seed, meets, recipe_of, refilled, Case};
 use reference::random::Random;
 use reference::Recipe;
 
@@ -196,31 +196,6 @@ fn lists_of_calls_agree() {
 #[test]
 fn altered_cells_do_no_harm() {
     each_seed(20, |seed| list_of_calls(seed, true, &mut Met::default()));
-}
-
-/// Changes one field of a state.
-fn damage_state(random: &mut Random, state: &mut State) {
-    let any = random.between(1, 60);
-    let all = state
-        .height
-        .wrapping_add(reference::reach(&recipe_of(&state.filter).columns));
-    match random.between(0, 4) {
-        0 => damage(random, &mut state.filter),
-        1 => {
-            let refused = refused_side(random);
-            state.width = random.one_of(&[refused, any, 1024]);
-        }
-        2 => {
-            let refused = refused_side(random);
-            state.height = random.one_of(&[refused, any, 1024]);
-        }
-        _ => {
-            let word = random.word() as usize;
-            let near = [state.height, all].map(|n| n.wrapping_add(random.between(0, 2)));
-            let before = near.map(|n| n.wrapping_sub(1));
-            state.emitted = random.one_of(&[before[0], before[1], before[1], word, usize::MAX]);
-        }
-    }
 }
 
 /// One call on a state that no call has returned.

@@ -1,7 +1,8 @@
 //! What the comparison tests share: the change from the library's form of a
 //! filter to the reference's, many random filters near all limits, in
-//! `pictures` random pictures, in `pairs` and `near_misses` pairs of recipes, in
-//! `causes` refusals on purpose, and the comparison of each call with the
+//! `pictures` random pictures, in `sums` rows of sums, in `pairs`, `near_misses`
+//! and `difference_pairs` pairs of recipes, in `causes` refusals on purpose, in
+//! `guarded` memory between guard pages, and the comparison of each call with the
 //! reference: in `agree` the calls on filters, in `agree_methods` direct and
 //! pass by pass, in `agree_stream` the one pass, whose work cells `cells`
 //! models, in `agree_greys` rounding, blur, difference and readings, in
@@ -27,12 +28,15 @@ pub mod agree_stream;
 pub mod any_jobs;
 pub mod causes;
 pub mod cells;
+pub mod difference_pairs;
+pub mod guarded;
 pub mod job_parts;
 pub mod lent;
 pub mod near_misses;
 pub mod pairs;
 pub mod pictures;
 pub mod program;
+pub mod sums;
 pub mod three;
 pub mod values;
 
@@ -44,7 +48,7 @@ use reference::Recipe;
 const CASES: u64 = 100_000;
 
 /// A number set in the environment.
-fn set_number(name: &str) -> Option<u64> {
+pub fn set_number(name: &str) -> Option<u64> {
     let text = std::env::var(name).ok()?;
     Some(text.parse().expect("the variable holds a whole number"))
 }
@@ -143,7 +147,7 @@ impl Case {
 }
 
 /// Prints its seed if the case fails.
-struct Seed(u64);
+pub struct Seed(pub u64);
 
 impl Drop for Seed {
     fn drop(&mut self) {
@@ -253,6 +257,31 @@ pub fn damage(random: &mut Random, filter: &mut Filter) {
         cascade.count = random.one_of(&[0, 1, 47, 48, 49, 50, 255, any]);
     } else {
         cascade.widths[random.between(0, 47)] = random.one_of(&[0, 1, 2, 255, any]);
+    }
+}
+
+/// Changes one field of a state.
+pub fn damage_state(random: &mut Random, state: &mut State) {
+    let any = random.between(1, 60);
+    let all = state
+        .height
+        .wrapping_add(reference::reach(&recipe_of(&state.filter).columns));
+    match random.between(0, 4) {
+        0 => damage(random, &mut state.filter),
+        1 => {
+            let refused = pictures::refused_side(random);
+            state.width = random.one_of(&[refused, any, 1024]);
+        }
+        2 => {
+            let refused = pictures::refused_side(random);
+            state.height = random.one_of(&[refused, any, 1024]);
+        }
+        _ => {
+            let word = random.word() as usize;
+            let near = [state.height, all].map(|n| n.wrapping_add(random.between(0, 2)));
+            let before = near.map(|n| n.wrapping_sub(1));
+            state.emitted = random.one_of(&[before[0], before[1], before[1], word, usize::MAX]);
+        }
     }
 }
 

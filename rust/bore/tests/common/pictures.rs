@@ -217,7 +217,7 @@ pub fn larger_picture(random: &mut Random) -> Picture {
 
 /// A place on a side: on its ends, where the window just goes over them, or
 /// anywhere.
-fn any_place(random: &mut Random, side: usize, list: &[u8]) -> usize {
+fn place_on_side(random: &mut Random, side: usize, list: &[u8]) -> usize {
     let last = side - 1;
     let half = reference::reach(list).div_ceil(2);
     let near = random
@@ -233,9 +233,32 @@ pub fn some_places(random: &mut Random, recipe: &Recipe, picture: &Picture) -> V
     let (right, bottom) = (picture.width - 1, picture.height - 1);
     let mut places = vec![(0, 0), (right, 0), (0, bottom), (right, bottom)];
     for _ in 0..12 {
-        let column = any_place(random, picture.width, &recipe.rows);
-        let row = any_place(random, picture.height, &recipe.columns);
+        let column = place_on_side(random, picture.width, &recipe.rows);
+        let row = place_on_side(random, picture.height, &recipe.columns);
         places.push((column, row));
     }
     places
+}
+
+/// A place past the end of a side. Past the end of a row it has the index of a
+/// place in a later row.
+pub fn past(random: &mut Random, side: usize) -> usize {
+    let near = side.saturating_add(random.between(0, 40));
+    let far = side.saturating_add(random.word() as usize);
+    random.one_of(&[side, side, near, far, 1 << 32, 1 << 63, usize::MAX])
+}
+
+/// A place of which one in eight is outside the picture.
+pub fn any_place(random: &mut Random, picture: &Picture) -> (usize, usize) {
+    let [column, row] = [picture.width, picture.height].map(|side| match side {
+        // A refused side may be 0.
+        0 => 0,
+        _ => random.between(0, side - 1),
+    });
+    match random.between(0, 23) {
+        0 => (past(random, picture.width), row),
+        1 => (column, past(random, picture.height)),
+        2 => (past(random, picture.width), past(random, picture.height)),
+        _ => (column, row),
+    }
 }
