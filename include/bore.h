@@ -4,8 +4,9 @@
  * A call looks at its arguments in the order that its comment names, returns the first number that applies,
  * and then has written nothing. The exceptions are fields that stand beside the number: a refused bore_start
  * leaves a state of zeros, a refused bore_push or bore_drain a count of 0, a refused bore_read_job a job of
- * zeros. No call keeps a pointer, allocates, or has any other effect, so calls on different memory may run
- * at the same time.
+ * zeros. No call keeps a pointer, allocates memory or waits, so calls on different memory may run at the same
+ * time. A call needs less than 64 KiB of stack. bore_moments and bore_sample_mean divide floats, in the
+ * default floating-point environment.
  *
  * A slice is a pointer and, behind it, the number of its elements: `pixels` and `pixels_len`. A null pointer
  * is allowed with length 0 and only there. Every other pointer is to a whole object and is never null.
@@ -14,11 +15,18 @@
  * What a call can write (every pointer without const, over its whole length) may not overlap anything else
  * that the call is lent. What it only reads may overlap what it only reads.
  *
- * Words: a cascade is a list of box widths along one axis, a filter (document 01: a recipe) a cascade for the
- * rows and one for the columns. The order (reach) of a cascade is the sum of its widths less 1 each, the
- * weight of a filter the product of all its widths. A picture of width by height grows to full_width by
- * full_height, each side by the order of its axis; the grown size is their product. Pictures and sums stand
- * row by row. */
+ * Words. A cascade is a list of box widths along one axis; a filter (document 01: a recipe) is a cascade for
+ * the rows and one for the columns. A box of width n has n coefficients 1, and the coefficients of a cascade
+ * are those of its boxes convolved: R along the rows, C along the columns. The order (reach) of a cascade is
+ * the sum of its widths less 1 each, so that it has order + 1 coefficients. The weight of a filter is the
+ * product of all its widths.
+ *
+ * A picture of width by height pixels grows to full_width by full_height, each side by the order of its axis;
+ * the grown size is their product. The exact sum at grown column i and row j is the sum of R[a] times C[b]
+ * times the pixel at column i - a and row j - b, over all a and b. A pixel outside the picture is 0, so blurs
+ * darken towards the rim. Pictures and sums stand row by row, columns and rows are counted from 0.
+ *
+ * Document 01 stands as definitions in crates/spec/specs. */
 #ifndef BORE_H
 #define BORE_H
 
@@ -100,8 +108,8 @@ static inline const char *bore_refusal_text(uint8_t number)
     }
 }
 
-/* A list of box widths along one axis. Only the first `count` widths have a meaning; every call refuses a
- * count above 48 by 1. */
+/* A list of box widths along one axis. Only the first `count` widths have a meaning; a count above 48 is
+ * refused by 1, in a state by 9. */
 typedef struct bore_cascade {
     uint8_t count;
     uint8_t widths[BORE_MOST_WIDTHS];
@@ -164,36 +172,37 @@ BORE_STATIC_ASSERT(job_filter, offsetof(bore_job, filter) == 0);
 BORE_STATIC_ASSERT(job_of_words, offsetof(bore_job, words) == 104);
 
 /* Fills a cascade from a slice of widths, with zeros past them. Refuses more than 48 widths by 1 and then
- * writes nothing; what the widths are is for bore_check to say. */
+ * writes nothing; what the widths are is for bore_check to say. The widths may lie in the cascade itself. */
 BORE_NONNULL(1) BORE_READS(2, 3)
 static inline BORE_CALL bore_set_cascade(bore_cascade *list, const uint8_t *widths, size_t widths_len)
 {
-    size_t k;
+    bore_cascade made = {0, {0}};
     if (widths_len > BORE_MOST_WIDTHS) {
         return BORE_LIST_TOO_LONG;
     }
-    list->count = (uint8_t)widths_len;
-    for (k = 0; k < BORE_MOST_WIDTHS; k++) {
-        list->widths[k] = 0;
+    while (made.count < widths_len) {
+        made.widths[made.count] = widths[made.count];
+        made.count++;
     }
-    for (k = 0; k < widths_len; k++) {
-        list->widths[k] = widths[k];
-    }
+    *list = made;
     return BORE_ACCEPTED;
 }
 
-/* Fills a filter from the widths along the rows and those along the columns, in the same way. */
+/* Fills a filter from the widths along the rows and those along the columns, in the same way. Either may lie
+ * in the filter itself. */
 BORE_NONNULL(1) BORE_READS(2, 3) BORE_READS(4, 5)
 static inline BORE_CALL bore_set_filter(bore_filter *filter, const uint8_t *rows, size_t rows_len,
                                         const uint8_t *columns, size_t columns_len)
 {
-    if (rows_len > BORE_MOST_WIDTHS || columns_len > BORE_MOST_WIDTHS) {
-        return BORE_LIST_TOO_LONG;
+    bore_filter made;
+    uint8_t number = bore_set_cascade(&made.rows, rows, rows_len);
+    if (number == BORE_ACCEPTED) {
+        number = bore_set_cascade(&made.columns, columns, columns_len);
     }
-    if (bore_set_cascade(&filter->rows, rows, rows_len) != BORE_ACCEPTED) {
-        return BORE_LIST_TOO_LONG;
+    if (number == BORE_ACCEPTED) {
+        *filter = made;
     }
-    return bore_set_cascade(&filter->columns, columns, columns_len);
+    return number;
 }
 
 /* Each comment below says what a call takes, the numbers by which it refuses, in their order, what it writes
@@ -225,7 +234,8 @@ BORE_NONNULL(1, 4, 5)
 BORE_CALL bore_full_size(const bore_filter *block, size_t width, size_t height,
                          size_t *BORE_RESTRICT full_width, size_t *BORE_RESTRICT full_height);
 
-/* How many work cells the stream needs.
+/* How many work cells the stream needs: those of the rows' widths, and the grown width times those of the
+ * columns' widths, where a width of 1 has no cell, a width of 2 one, and a wider one as many as it is wide.
  * Takes: a filter and the width of a picture.
  * Refuses: 1, 2, 3, 4; 5 unless the width is from 1 to 1,024.
  * Writes: cells.
@@ -233,7 +243,8 @@ BORE_CALL bore_full_size(const bore_filter *block, size_t width, size_t height,
 BORE_NONNULL(1, 3)
 BORE_CALL bore_stream_cells(const bore_filter *block, size_t width, size_t *BORE_RESTRICT cells);
 
-/* The scale card: the weight, and the order and the variance of each axis.
+/* The scale card: the weight, and the order and the variance of each axis, which is the sum of n times n - 1
+ * over its widths n, divided by 12.
  * Takes: a filter.
  * Refuses: 1, 2, 3, 4.
  * Writes: all five values.
@@ -251,9 +262,12 @@ BORE_CALL bore_moments(const bore_filter *block, uint64_t *BORE_RESTRICT weight,
 BORE_NONNULL(1, 2, 3)
 BORE_CALL bore_equivalent(const bore_filter *a, const bore_filter *b, uint8_t *BORE_RESTRICT same);
 
-/* ---- All sums of a picture ---- */
+/* ---- All sums of a picture ----
+ *
+ * Three ways to the same sums: bore_direct forms each as it is defined, slowly for wide filters; bore_passes
+ * runs one width after another over the whole grown picture; the stream works row after row, with few cells. */
 
-/* Every exact sum as it is defined.
+/* Every exact sum, as it is defined.
  * Takes: a filter, a picture, room for the coefficients of both axes and for the sums.
  * Refuses: 1, 2, 3, 4; 5 unless both sides are from 1 to 1,024; 6 unless pixels_len is width times height;
  * 7 unless row_kernel_len is the rows' order + 1, column_kernel_len the columns' order + 1, and out_len the
@@ -280,7 +294,7 @@ BORE_CALL bore_passes(const bore_filter *block, size_t width, size_t height,
                       uint64_t *BORE_RESTRICT out, size_t out_len,
                       uint64_t *BORE_RESTRICT cells, size_t cells_len);
 
-/* ---- The stream: row after row, with few cells ----
+/* ---- The stream ----
  *
  * After an accepted bore_start, `height` calls of bore_push, each with the next row of the picture, and then
  * as many of bore_drain as the columns' order yield the grown rows from the first to the last. Each call gets
@@ -291,9 +305,9 @@ BORE_CALL bore_passes(const bore_filter *block, size_t width, size_t height,
  * Takes: a filter, the sides of a picture, work cells, and a state, as its filter and its words.
  * Refuses: 1, 2, 3, 4; 5 unless both sides are from 1 to 1,024; 8 where cells_len is below what
  * bore_stream_cells tells.
- * Writes: the needed cells, all of state and words; cells beyond the needed ones are left. A refusal leaves
- * the cells and writes a state of zeros, which the next call refuses by 9.
- * Overlaps nothing: cells, state, words. So the block is not the state's own filter: copy that first. */
+ * Writes: the needed cells, all of state (the filter, byte by byte) and words; cells beyond the needed ones
+ * are left. A refusal leaves the cells and writes a state of zeros, which the next call refuses by 9.
+ * Overlaps nothing: cells, state, words. To start with a state's own filter, copy that first. */
 BORE_NONNULL(1, 6, 7) BORE_WRITES(4, 5)
 BORE_CALL bore_start(const bore_filter *block, size_t width, size_t height,
                      uint64_t *BORE_RESTRICT cells, size_t cells_len,
@@ -304,8 +318,9 @@ BORE_CALL bore_start(const bore_filter *block, size_t width, size_t height,
  * Refuses: 9 for a state whose filter or sides would be refused, or with more rows yielded than the grown
  * height; 10 where all rows of the picture are in; 6 unless pixels_len is the width; 7 unless out_len is the
  * grown width; 8 where cells_len is below what bore_stream_cells tells.
- * Writes: the grown row into out, the needed cells, words, and the count of additions and subtractions; cells
- * beyond the needed ones are left. A refusal writes the count, 0, and leaves words, out and cells.
+ * Writes: the grown row into out, the needed cells, words, and the count of additions and subtractions, which
+ * is the grown width times the cost of all widths (a width of 1 costs 0, a width of 2 costs 1, a wider one 2);
+ * cells beyond the needed ones are left. A refusal writes the count, 0, and leaves words, out and cells.
  * Overlaps nothing: words, out, cells, count. */
 BORE_NONNULL(1, 2, 9) BORE_READS(3, 4) BORE_WRITES(5, 6) BORE_UPDATES(7, 8)
 BORE_CALL bore_push(const bore_filter *state, bore_state_words *BORE_RESTRICT words,
@@ -406,7 +421,7 @@ BORE_NONNULL(3, 4) BORE_READS(1, 2)
 BORE_CALL bore_read_job(const uint8_t *bytes, size_t bytes_len, bore_filter *BORE_RESTRICT block,
                         bore_job_words *BORE_RESTRICT words);
 
-/* The length of a job file in bytes.
+/* The length of a job file in bytes: 11, and one for each width and for each pixel.
  * Takes: a filter and the sides of a picture.
  * Refuses: 1, 2, 3, 4; 5 unless both sides are from 1 to 1,024.
  * Writes: size.

@@ -207,7 +207,7 @@ int main(int argc, char **argv)
               accepted("job", bore_read_job(bytes, length, &job.filter, &job.words)) &&
               print_job(&job, bytes + job.words.offset, &other);
     free(bytes);
-    if (fflush(stdout) != 0) {
+    if (fflush(stdout) != 0 || ferror(stdout)) {
         fprintf(stderr, "wall: standard output cannot be written\n");
         return 1;
     }

@@ -1,6 +1,7 @@
 //! What an example makes of a refusal number, and how it ends: with a text on standard output, or with
 //! what is wrong on standard error and a status other than 0.
 
+use std::io::{stdout, Write};
 use std::process::ExitCode;
 
 /// The text to print, or what is wrong.
@@ -22,11 +23,12 @@ pub fn refused(number: u8) -> String {
 
 /// Prints, and gives the status.
 pub fn end(outcome: Outcome) -> ExitCode {
-    match outcome {
-        Ok(text) => {
-            println!("{text}");
-            ExitCode::SUCCESS
-        }
+    let printed = outcome.and_then(|text| {
+        let written = writeln!(stdout(), "{text}");
+        written.map_err(|error| format!("standard output cannot be written: {error}"))
+    });
+    match printed {
+        Ok(()) => ExitCode::SUCCESS,
         Err(text) => {
             eprintln!("{text}");
             ExitCode::FAILURE
