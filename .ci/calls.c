@@ -1,37 +1,15 @@
 /* Every call on wide pictures in a thread with 64 KiB of stack, as bore.h promises: all have to be accepted.
- * Before that, the helpers that fill a filter. .ci/c compiles and runs it. */
+ * .ci/c compiles and runs it. */
 #include "bore.h"
 
-#include <assert.h>
 #include <pthread.h>
 #include <stdio.h>
-#include <string.h>
 
 enum { WIDTH = 1024, HEIGHT = 2, GROWN = (WIDTH + 255) * (HEIGHT + 254) };
 
 static uint8_t pixels[WIDTH * HEIGHT], grays[GROWN], file[WIDTH * HEIGHT + 107];
 static uint64_t sums[GROWN], cells[4 * GROWN], kernels[2][256];
 static int16_t differences[WIDTH * HEIGHT];
-
-/* Lists that are too long write nothing, and widths may lie in what is filled. */
-static void helpers(void)
-{
-    static const uint8_t widths[49] = {2, 6, 6}, zeros[48];
-    bore_filter filter, before;
-    memset(&filter, 7, sizeof filter);
-    before = filter;
-    assert(bore_set_filter(&filter, widths, 49, NULL, 0) == BORE_LIST_TOO_LONG);
-    assert(bore_set_filter(&filter, NULL, 0, widths, 49) == BORE_LIST_TOO_LONG);
-    assert(bore_set_cascade(&filter.rows, widths, 49) == BORE_LIST_TOO_LONG);
-    assert(memcmp(&filter, &before, sizeof filter) == 0);
-    assert(bore_set_filter(&filter, widths, 3, widths, 48) == BORE_ACCEPTED);
-    assert(filter.rows.count == 3 && memcmp(filter.rows.widths, widths, 48) == 0);
-    assert(filter.columns.count == 48 && memcmp(filter.columns.widths, widths, 48) == 0);
-    assert(bore_set_filter(&filter, filter.columns.widths, 2, filter.rows.widths + 1, 2) == BORE_ACCEPTED);
-    assert(filter.rows.count == 2 && filter.rows.widths[0] == 2 && filter.rows.widths[1] == 6);
-    assert(filter.columns.count == 2 && filter.columns.widths[0] == 6 && filter.columns.widths[1] == 6);
-    assert(memcmp(filter.rows.widths + 2, zeros, 46) == 0 && memcmp(filter.columns.widths + 2, zeros, 46) == 0);
-}
 
 static unsigned filters(const bore_filter *a)
 {
@@ -97,7 +75,6 @@ int main(void)
     unsigned number = 1;
     pthread_attr_t attributes;
     pthread_t thread;
-    helpers();
     if (pthread_attr_init(&attributes) || pthread_attr_setstacksize(&attributes, 65536) ||
         pthread_create(&thread, &attributes, all, &number) || pthread_join(thread, NULL)) {
         puts("there is no thread");

@@ -2,6 +2,10 @@
  * .ci/c defines MISTAKE as its number; 0 is none. */
 #include "bore.h"
 
+#if MISTAKE == 9 /* an assertion that does not hold */
+BORE_STATIC_ASSERT(never, sizeof(bore_filter) == 99);
+#endif
+
 int main(void)
 {
     bore_filter filter;
@@ -25,6 +29,14 @@ int main(void)
     number |= bore_passes(&filter, 1, 1, pixel, 1, cells, 9, cells, 9);
 #elif MISTAKE == 8 /* a number that nobody looks at */
     bore_check(&filter);
+#elif MISTAKE == 10 /* no filter to fill */
+    number |= bore_set_filter(NULL, widths, 3, NULL, 0);
+#elif MISTAKE == 11 /* no list to fill */
+    number |= bore_set_cascade(NULL, widths, 3);
+#elif MISTAKE == 12 /* three widths where 48 are read, along the columns */
+    number |= bore_set_filter(&filter, NULL, 0, widths, 48);
+#elif MISTAKE == 13 /* three widths where 48 are read, for a list */
+    number |= bore_set_cascade(&filter.rows, widths, 48);
 #endif
     number |= bore_kernel(&filter.rows, out, 3);
     number |= bore_passes(&filter, 1, 1, pixel, 1, out, 3, cells, 9);

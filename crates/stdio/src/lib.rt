@@ -1,5 +1,5 @@
-// Standard input read to its end and standard output written whole. A call that was interrupted, or that
-// would have to wait, is made again, a bounded number of times.
+// Standard input read to its end and standard output written whole. A call that was interrupted or would
+// have to wait, and a write that took nothing, is made again, a bounded number of times.
 ghost use Prim.Native.Nat.{_≤_};
 ghost use lib.ListN.{length};
 use libc::EAGAIN;
@@ -77,17 +77,17 @@ pub fn read_all(bytes: &mut [u8]) -> Input
     }
 }
 
-// Writes some bytes, and answers how many; none where a write fails.
+// Writes some bytes, and answers how many; none where a write fails or none takes any.
 fn write_some(bytes: &[u8]) -> usize
     ensures { λ r. ⌜ r ≤ length (now (bytes .entry)) ⌝ }
 {
     let mut tries = TRIES;
     while tries > 0 {
         let got = libc::write(STDOUT_FILENO, bytes);
-        if got >= 0 {
+        if got > 0 {
             return io::count(got, bytes);
         }
-        if !may_pass() {
+        if got < 0 && !may_pass() {
             break;
         }
         tries -= 1;

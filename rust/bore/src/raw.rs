@@ -1,7 +1,7 @@
 //! The declarations of the static library's functions, and a safe form of
 //! each. No other file of this crate has unsafe code, its tests apart.
 //!
-//! The test tests/declarations.rs compares these declarations with the library's
+//! The test tests/declarations compares these declarations with the library's
 //! source: each has to be equal to the exported function, argument by argument.
 //! A block of 98 or 49 bytes is declared as the struct with these bytes, a block
 //! of three words is three fields of a struct one after the other. A slice is a

@@ -14,7 +14,7 @@ use std::os::fd::AsRawFd;
 use std::os::unix::fs::OpenOptionsExt;
 use std::os::unix::process::ExitStatusExt;
 use std::path::{Path, PathBuf};
-use std::process::{Command, Output, Stdio};
+use std::process::{self, Command, Output, Stdio};
 use std::thread;
 use std::time::Duration;
 
@@ -34,11 +34,19 @@ fn long_job() -> Vec<u8> {
     Parts::new(&[2, 2], &[2, 2], [1000, 60], pixels).bytes()
 }
 
-/// The file of a job, of this name, for a test alone.
+/// A path for a file of this name, for one test of this process alone.
+fn own(name: &str) -> PathBuf {
+    let name = format!("{}-{name}", process::id());
+    Path::new(env!("CARGO_TARGET_TMPDIR")).join(name)
+}
+
+/// The file of a job, opened; its name, for a test alone, is gone again.
 fn file_of(name: &str, job: &[u8]) -> File {
-    let path = Path::new(env!("CARGO_TARGET_TMPDIR")).join(name);
+    let path = own(name);
     std::fs::write(&path, job).expect("the job can be written");
-    File::open(path).expect("the job can be read")
+    let file = File::open(&path).expect("the job can be read");
+    std::fs::remove_file(path).expect("the job can be removed");
+    file
 }
 
 /// The end of a command: status 0 and this line on standard error.
@@ -177,18 +185,22 @@ fn input_that_does_not_wait() {
 /// The library that stands before read and write, compiled.
 fn shim(name: &str) -> PathBuf {
     let tests = Path::new(env!("CARGO_MANIFEST_DIR")).join("tests/shim/shim.c");
-    let library = Path::new(env!("CARGO_TARGET_TMPDIR")).join(name);
-    let mut command = Command::new("cc");
+    let library = own(name);
+    let mut command = Command::new("gcc");
     command.args(["-O2", "-shared", "-fPIC", "-o"]);
     let status = command.arg(&library).arg(tests).status();
     assert!(status.expect("there is a C compiler").success());
     library
 }
 
-/// Runs the program behind the shim: so many calls fail before each byte.
+/// Runs the program behind the shim: so many calls fail before each byte. It runs
+/// in the shim's folder, since LD_PRELOAD is parted at spaces and colons.
 fn behind(shim: &Path, job: File, reads: u64, writes: u64) -> Output {
+    let [folder, name] = [shim.parent().map(Path::as_os_str), shim.file_name()];
+    let preload = Path::new(".").join(name.expect("the shim has a name"));
     let mut command = Command::new(program());
-    command.env("LD_PRELOAD", shim).stdin(job);
+    command.current_dir(folder.expect("the shim is in a folder"));
+    command.env("LD_PRELOAD", preload).stdin(job);
     command.env("SHIM_READS", reads.to_string());
     command.env("SHIM_WRITES", writes.to_string());
     command.output().expect("the program runs")
@@ -208,10 +220,11 @@ fn single_bytes_between_calls_that_fail() {
         let output = behind(&shim, file_of("single.job", job), fails, fails);
         prints(&output, job);
     }
+    std::fs::remove_file(shim).expect("the shim can be removed");
 }
 
-/// The last try is enough, and there is no further one. The last failure of an
-/// even number is a call that would have to wait.
+/// The last try is enough, and there is no further one. The last of so many
+/// failures is a write that was interrupted, and a read that would have to wait.
 #[test]
 fn as_many_tries_as_stated() {
     let shim = shim("tries.so");
@@ -219,10 +232,7 @@ fn as_many_tries_as_stated() {
     prints(&behind(&shim, job(), 0, TRIES - 1), &EXAMPLE);
     prints(&behind(&shim, job(), TRIES - 1, 0), &EXAMPLE);
     let output = behind(&shim, job(), 0, TRIES);
-    says(
-        &output,
-        &format!("{UNWRITTEN}Resource temporarily unavailable\n"),
-    );
+    says(&output, &format!("{UNWRITTEN}Interrupted system call\n"));
     assert_eq!(output.stdout, b"");
     let output = behind(&shim, job(), TRIES, 0);
     says(
@@ -230,4 +240,5 @@ fn as_many_tries_as_stated() {
         &format!("{UNREAD}Resource temporarily unavailable\n"),
     );
     assert_eq!(output.stdout, b"");
+    std::fs::remove_file(shim).expect("the shim can be removed");
 }

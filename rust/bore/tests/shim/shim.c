@@ -1,6 +1,7 @@
 /* Stands before the C library's read and write of a program (LD_PRELOAD). A call on standard input or output
- * moves one byte at most, and before each one so many calls fail as SHIM_READS or SHIM_WRITES says, in turn as
- * one that was interrupted and as one that would have to wait. sched_yield returns at once. */
+ * moves one byte at most, and before each one so many calls fail as SHIM_READS or SHIM_WRITES says: in turn one
+ * was interrupted and one would have to wait, and of the writes a third takes nothing. sched_yield returns at
+ * once. */
 #define _GNU_SOURCE
 #include <errno.h>
 #include <stdlib.h>
@@ -22,11 +23,12 @@ __attribute__((constructor)) static void begin(void)
     writes = set_to("SHIM_WRITES");
 }
 
-/* Whether this call fails. */
-static int fails(unsigned long most)
+/* Whether this call fails, with this error. */
+static int fails(unsigned long most, int error)
 {
     if (failed < most) {
-        errno = failed++ % 2 ? EAGAIN : EINTR;
+        failed++;
+        errno = error;
         return 1;
     }
     failed = 0;
@@ -35,7 +37,7 @@ static int fails(unsigned long most)
 
 ssize_t read(int fd, void *bytes, size_t count)
 {
-    if (fd == STDIN_FILENO && fails(reads)) {
+    if (fd == STDIN_FILENO && fails(reads, failed % 2 ? EAGAIN : EINTR)) {
         return -1;
     }
     return syscall(SYS_read, fd, bytes, fd == STDIN_FILENO && count > 1 ? 1 : count);
@@ -43,8 +45,10 @@ ssize_t read(int fd, void *bytes, size_t count)
 
 ssize_t write(int fd, const void *bytes, size_t count)
 {
-    if (fd == STDOUT_FILENO && fails(writes)) {
-        return -1;
+    static const int errors[] = {EINTR, 0, EAGAIN};
+    const int error = errors[failed % 3];
+    if (fd == STDOUT_FILENO && fails(writes, error)) {
+        return error ? -1 : 0;
     }
     return syscall(SYS_write, fd, bytes, fd == STDOUT_FILENO && count > 1 ? 1 : count);
 }
