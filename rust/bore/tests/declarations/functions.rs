@@ -113,7 +113,7 @@ pub fn source() -> Functions {
             continue;
         }
         let source = fs::read_to_string(&path).expect("the source can be read");
-        for (name, list, behind) in declared(&code(&source), "extern \"C\" fn ") {
+        for (name, list, behind) in declared(&code(&source), "pub extern \"C\" fn ") {
             let parameters = listed(list).into_iter().map(|one| named(&one));
             let function = Function {
                 parameters: parameters.flat_map(crossing).collect(),
