@@ -22,12 +22,12 @@ struct Row {
     state: State,
 }
 
-// Writes out what waits.
+// Writes out what waits, and answers whether all of it went.
 fn flush(buffer: &[u8], count: usize) -> bool
     requires { ⌜ count ≤ length (now buffer) ⌝ }
 {
     let z: usize = 0;
-    stdio::write_all(&buffer[z..count])
+    stdio::write_all(&buffer[z..count]) == count
 }
 
 // Puts the first bytes of a text behind what waits, as many as `taken` says. Where they have no room,

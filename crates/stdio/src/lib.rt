@@ -95,16 +95,18 @@ fn write_some(bytes: &[u8]) -> usize
     0
 }
 
-// Writes all of `bytes`, or answers false where a write fails.
-pub fn write_all(bytes: &[u8]) -> bool {
+// Writes `bytes` from the first on, and answers how many: all of them, unless a write fails.
+pub fn write_all(bytes: &[u8]) -> usize
+    ensures { λ r. ⌜ r ≤ length (now (bytes .entry)) ⌝ }
+{
     let end = bytes.len();
     let mut done: usize = 0;
     while done < end {
         let more = write_some(&bytes[done..end]);
         if more == 0 {
-            return false;
+            break;
         }
         done += more;
     }
-    true
+    done
 }

@@ -1,4 +1,4 @@
--- `stdio::write_all` is safe and ends. The invariant: what is written lies within the bytes. The measure is what is left of them, and each
+-- `stdio::write_all` meets its contract. The invariant: what is written lies within the bytes. The measure is what is left of them, and each
 -- turn that goes on writes one or more.
 -- Assumes nothing.
 use mathlib.Core.Path.{_≡_}
@@ -29,9 +29,6 @@ part-write-some-end c = search needs
 write-some-requires : tie.Need-write-some-requires Inv-loop μ-loop
 write-some-requires c κs = search needs
 
-returns : tie.Need-returns Inv-loop μ-loop
-returns c = search needs
-
 add-done : tie.Need-add-done Inv-loop μ-loop
 add-done c = search needs
 
@@ -40,6 +37,9 @@ loop-less c = search needs
 
 loop-again : tie.Need-loop-again Inv-loop μ-loop
 loop-again c = search needs
+
+returns : tie.Need-returns Inv-loop μ-loop
+returns c = search needs
 
 returns-2 : tie.Need-returns-2 Inv-loop μ-loop
 returns-2 c = search needs
@@ -55,8 +55,8 @@ write-all-spec =
     part-write-some-start
     part-write-some-end
     write-some-requires
-    returns
     add-done
     loop-less
     loop-again
+    returns
     returns-2)
