@@ -243,8 +243,8 @@ BORE_CALL bore_full_size(const bore_filter *block, size_t width, size_t height,
 BORE_NONNULL(1, 3)
 BORE_CALL bore_stream_cells(const bore_filter *block, size_t width, size_t *BORE_RESTRICT cells);
 
-/* The scale card: the weight, and the order and the variance of each axis, which is the sum of n times n - 1
- * over its widths n, divided by 12.
+/* The scale card: the weight, the order of each axis, and its variance, which is the sum of n * n - 1 over its
+ * widths n, divided by 12.
  * Takes: a filter.
  * Refuses: 1, 2, 3, 4.
  * Writes: all five values.

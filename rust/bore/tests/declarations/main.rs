@@ -2,8 +2,8 @@
 //! `rust/bore/src/raw.rs`, beside the exported functions of the Rattle source:
 //! the same functions, each with the same parameters in the same order, by name
 //! and by type, and the same return. `told` has what the header tells a compiler
-//! and a reader beside that, `words` the words of the numbers, and `compiled`
-//! the header as compilers read it.
+//! and a reader beside that, `words` the words of the numbers in the README, and
+//! `compiled` the header as compilers read it, with its words.
 
 mod compiled;
 mod functions;
