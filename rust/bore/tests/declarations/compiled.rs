@@ -1,7 +1,7 @@
 //! The header as compilers read it, which is not as its text alone would say: it
 //! has macros, conditions and types of its own.
 
-use crate::functions::{root, source, Function, TYPES};
+use crate::functions::{code, listed, root, source, text, Function, HEADER, TYPES};
 use std::fs;
 use std::path::Path;
 use std::process::{self, Command};
@@ -93,6 +93,18 @@ fn program() -> String {
     lines.push("        puts(bore_refusal_text((uint8_t)n));".to_string());
     lines.push("    return 0;\n}\n".to_string());
     lines.join("\n")
+}
+
+/// The header has these names for numbers, and no other.
+#[test]
+fn the_numbers_have_these_names() {
+    let code = code(&text(HEADER));
+    let (_, list) = code.split_once("enum bore_refusal {").expect("the numbers");
+    let (list, _) = list.split_once("};").expect("the numbers end");
+    let names = listed(list).into_iter();
+    let names: Vec<String> = names.map(|one| one.replace('=', " ")).collect();
+    let names: Vec<_> = names.iter().map(|one| one.split(' ').next()).collect();
+    assert_eq!(names, NAMES.map(Some));
 }
 
 #[test]
