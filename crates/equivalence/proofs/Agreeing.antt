@@ -3,25 +3,26 @@
 -- Assumes nothing.
 use mathlib.Core.Path.{_≡_, refl, sym, ap, ap₂, _∙_}
 use mathlib.Core.Bool.{Bool, true, false, cond, _&&_, true≢false}
+use mathlib.Core.List.{[]}
 use Prim.Native.Nat.{ℕ, zero, suc, _+_, _≤_, _<_}
 use native.Mathlib.Omega.{arith}
 use lib.ListN.{getD}
 use Rattle.spec.specs.declared.Filter.{Filter}
 use Rattle.spec.specs.Recipe.{Recipe, recipe, order, gain}
 use Rattle.spec.specs.Picture.{Sides, fullSides, fullWidth, fullHeight, exact, fullRow}
-use Rattle.spec.specs.Same.{sameCounts, equivalent}
-use Rattle.spec.specs.Refusals.{Answer, first, accepted, recipeChecks, sizeChecks, compareChecks, badSides, badSide}
+use Rattle.spec.specs.Same.{sameCounts, equivalent, SameCounts}
+use Rattle.spec.specs.Refusals.{Answer, first, accepted, recipeChecks, sizeChecks, pictureChecks, compareChecks, badSides, badSide}
 use Rattle.laws.proofs.Numbers.{both}
 use Rattle.laws.proofs.Lists.{getD-tab}
-use Rattle.laws.proofs.Refusals.{first-rest, first-then, recipe-numbered, picture-passed, answer-accepted, is-accepted}
+use Rattle.laws.proofs.Refusals.{first-rest, first-then, first-none, none-both, recipe-numbered, size-numbered, picture-passed, answer-accepted, is-accepted, is-accepted-picture}
 use Rattle.laws.proofs.Counts.{same-balanced, balanced-same}
 use Rattle.laws.proofs.Sameness.{dot, counts-gain, counts-width, counts-height, counts-row, sums-counts}
 use Rattle.rows.specs.OnePass.{Bytes}
 use Rattle.equivalence.specs.declared.Comparison.{Comparison}
 use Rattle.equivalence.specs.declared.Comparison.the-variants as comparison
 use Rattle.equivalence.specs.Compared.{comparisonTold}
-use Rattle.equivalence.specs.Yields.{AcceptedRecipe, AcceptedWith, direct}
-use Rattle.equivalence.specs.Agreement.{SameCounts, AgreeAlways, SameClaim}
+use Rattle.equivalence.specs.Yields.{AcceptedRecipe, AcceptedWith, Method}
+use Rattle.equivalence.specs.Agreement.{AgreeAlways, SameClaim, AcceptedAlike}
 use Rattle.equivalence.proofs.Yielding.{yields-exactly}
 
 -- ---- the call and the counts
@@ -63,24 +64,24 @@ module _ (a b : Filter) (known : AcceptedRecipe (recipe a)) (other-known : Accep
   b-pos : 0 < gain (recipe b)
   b-pos = is-accepted (recipe b) other-known .notZero
 
-  counts-agree : SameCounts (recipe a) (recipe b) → AgreeAlways a b
+  counts-agree : (m n : Method) → SameCounts (recipe a) (recipe b) → AgreeAlways m n a b
   unfolding fullSides
-  counts-agree s p shown other-shown =
+  counts-agree m n s p shown other-shown =
       record {
         sides = λ i. record {
           width = counts-width (recipe a) (recipe b) (s .rows) (s .columns) (p .width) i;
           height = counts-height (recipe a) (recipe b) (s .rows) (s .columns) (p .height) i;
         };
         weights = counts-gain (recipe a) (recipe b) (s .rows) (s .columns);
-        rows = λ m n j x y one other.
+        rows = λ j x y one other.
             yields-exactly a p shown j m .only x one
             ∙ counts-row (recipe a) (recipe b) (s .rows) (s .columns) a-pos b-pos p j
             ∙ sym (yields-exactly b p other-shown j n .only y other);
       }
 
-  agree-counts : AgreeAlways a b → SameCounts (recipe a) (recipe b)
+  agree-counts : (m n : Method) → AgreeAlways m n a b → SameCounts (recipe a) (recipe b)
   unfolding fullSides fullWidth fullHeight fullRow
-  agree-counts always =
+  agree-counts m n always =
       let shown = dot-accepted (recipe a) known in
       let other-shown = dot-accepted (recipe b) other-known in
       let here = always dot shown other-shown in
@@ -90,8 +91,8 @@ module _ (a b : Filter) (known : AcceptedRecipe (recipe a)) (other-known : Accep
       λ i j h l.
       sym (getD-tab (1 + order (recipe a .rows)) (λ i. exact (recipe a) dot i j) i 0 (omega arith))
       ∙ ap (λ row. getD row i 0)
-      (here .rows direct direct j (fullRow (recipe a) dot j) (fullRow (recipe b) dot j)
-      (yields-exactly a dot shown j direct .yielded (omega arith)) (yields-exactly b dot other-shown j direct .yielded (omega arith)))
+      (here .rows j (fullRow (recipe a) dot j) (fullRow (recipe b) dot j)
+      (yields-exactly a dot shown j m .yielded (omega arith)) (yields-exactly b dot other-shown j n .yielded (omega arith)))
       ∙ getD-tab (1 + order (recipe b .rows)) (λ i. exact (recipe b) dot i j) i 0 (omega arith) in
       let counts = sums-counts (recipe a) (recipe b) a-pos b-pos wide high sums in
       record { rows = counts .0; columns = counts .1 }
@@ -109,8 +110,18 @@ same-exactly a b known other-known told e =
         λ same. counts-said (recipe a) (recipe b) (told-true (ap comparisonTold (sym same) ∙ is)),
         λ counts. told-so told true (is ∙ ap accepted (said-counts (recipe a) (recipe b) counts)),
       );
-      agreed = (counts-agree a b known other-known, agree-counts a b known other-known);
+      agreed = λ m n. (counts-agree a b known other-known m n, agree-counts a b known other-known m n);
     }
   where
     told-true : {c : Bool} → _≡_ {A = Answer Bool} (accepted true) (accepted c) → c ≡ true
     told-true q = cc
+
+-- acceptance of a picture is by its sides and its pixels, whatever the recipe
+pub accepted-alike : AcceptedAlike
+unfolding sizeChecks pictureChecks
+accepted-alike a b known p shown =
+    let sized = none-both (sizeChecks a (p .width) (p .height)) _ (size-numbered a (p .width) (p .height)) (shown .checked) .0 in
+    let sides = none-both (recipeChecks a) _ (recipe-numbered a) sized .1 in
+    let good = first-none (badSides (p .width) (p .height)) 4 [] sides .0 in
+    let other = first-then (recipeChecks b) (badSides (p .width) (p .height)) 5 (recipe-numbered b) known ∙ ap (λ c. cond c 5 0) good in
+    record { checked = picture-passed b p other (is-accepted-picture a p (shown .checked) .size); bytes = shown .bytes }

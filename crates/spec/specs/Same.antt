@@ -1,4 +1,5 @@
 -- Demand 3: when two recipes are equal.
+use mathlib.Core.Path.{_≡_}
 use mathlib.Core.Bool.{Bool, not, _&&_}
 use mathlib.Core.List.{List, _++_}
 use Prim.Native.Nat.{ℕ}
@@ -17,3 +18,8 @@ sameCounts ns ms = everywhere (λ n. eqb (occurs n (struck ns)) (occurs n (struc
 -- Equal recipes: so in the row lists, and so in the column lists.
 unfoldable pub equivalent : Recipe → Recipe → Bool
 equivalent a b = sameCounts (a .rows) (b .rows) && sameCounts (a .columns) (b .columns)
+
+-- The same as a statement: in each list every width occurs as often in the one recipe as in the other.
+pub record SameCounts (a b : Recipe) : Type 0 where
+  pub rows : (n : ℕ) → occurs n (struck (a .rows)) ≡ occurs n (struck (b .rows))
+  pub columns : (n : ℕ) → occurs n (struck (a .columns)) ≡ occurs n (struck (b .columns))
