@@ -99,45 +99,45 @@ module _ (r : Recipe) (p : Picture) where
       ∙ conv-short (at (kernel (r .rows))) (line p v) (order (r .rows)) i (kernel-short (r .rows) (rows-pos r h))))
       ∙ sym (cascaded-conv (r .columns) (λ v. cascaded 1 (r .rows) (line p v) i) j)
 
-  -- Pixels are bytes.
-  module _ (small : (k : ℕ) → getD (p .pixels) k 0 ≤ 255) where
-    pub pixel-small : (i j : ℕ) → pixel p i j ≤ 255
+  -- No pixel is above a bound.
+  module _ (most : ℕ) (small : (k : ℕ) → getD (p .pixels) k 0 ≤ most) where
+    pub pixel-small : (i j : ℕ) → pixel p i j ≤ most
     unfolding pixel
     pixel-small i j = go (ltb i (p .width) && ltb j (p .height))
       where
-        go : (b : Bool) → cond b (getD (p .pixels) (j * p .width + i) 0) 0 ≤ 255
+        go : (b : Bool) → cond b (getD (p .pixels) (j * p .width + i) 0) 0 ≤ most
         go true = small (j * p .width + i)
         go false = omega arith
 
-    behind-small : (f : ℕ → ℕ) (most : ℕ) → ((k : ℕ) → f k ≤ most) → (a k : ℕ) → behind f a k ≤ most
-    behind-small f most h a k =
+    behind-small : (f : ℕ → ℕ) (b : ℕ) → ((k : ℕ) → f k ≤ b) → (a k : ℕ) → behind f a k ≤ b
+    behind-small f b h a k =
         elim (decLe a k) [
           | yes g ↦ le-trans (le-of-eq (behind-within f a k g)) (h (k - a))
           | no g ↦ omega (arith, behind-before f a k (omega arith))
         ]
 
     -- coefficients times values of at most so much
-    weighed : (ns : List ℕ) (m most : ℕ) (f : ℕ → ℕ) → ((a : ℕ) → f a ≤ most) → sum m (λ a. at (kernel ns) a * f a) ≤ most * product ns
-    weighed ns m most f h =
+    weighed : (ns : List ℕ) (m b : ℕ) (f : ℕ → ℕ) → ((a : ℕ) → f a ≤ b) → sum m (λ a. at (kernel ns) a * f a) ≤ b * product ns
+    weighed ns m b f h =
         le-trans
-        (sum-le (λ a. at (kernel ns) a * f a) (λ a. most * at (kernel ns) a) m
-        (λ a l. le-trans (mul-le-mul-left (at (kernel ns) a) (h a)) (le-of-eq (mul-comm (at (kernel ns) a) most))))
-        (le-trans (le-of-eq (sum-scale (at (kernel ns)) most m)) (mul-le-mul-left most (kernel-sum ns m)))
+        (sum-le (λ a. at (kernel ns) a * f a) (λ a. b * at (kernel ns) a) m
+        (λ a l. le-trans (mul-le-mul-left (at (kernel ns) a) (h a)) (le-of-eq (mul-comm (at (kernel ns) a) b))))
+        (le-trans (le-of-eq (sum-scale (at (kernel ns)) b m)) (mul-le-mul-left b (kernel-sum ns m)))
 
-    pub across-small : (i j : ℕ) → across i j ≤ 255 * product (r .rows)
+    pub across-small : (i j : ℕ) → across i j ≤ most * product (r .rows)
     unfolding across line
     across-small i j =
-        weighed (r .rows) (suc (order (r .rows))) 255 (λ a. behind (line p j) a i)
-        (λ a. behind-small (line p j) 255 (λ k. pixel-small k j) a i)
+        weighed (r .rows) (suc (order (r .rows))) most (λ a. behind (line p j) a i)
+        (λ a. behind-small (line p j) most (λ k. pixel-small k j) a i)
 
-    pub exact-small : (i j : ℕ) → exact r p i j ≤ 255 * gain r
+    pub exact-small : (i j : ℕ) → exact r p i j ≤ most * gain r
     unfolding gain
     exact-small i j =
         le-trans (le-of-eq (exact-down i j))
         (le-trans
-        (weighed (r .columns) (suc (order (r .columns))) (255 * product (r .rows)) (λ b. behind (across i) b j)
-        (λ b. behind-small (across i) (255 * product (r .rows)) (across-small i) b j))
-        (le-of-eq (mul-assoc 255 (product (r .rows)) (product (r .columns)))))
+        (weighed (r .columns) (suc (order (r .columns))) (most * product (r .rows)) (λ b. behind (across i) b j)
+        (λ b. behind-small (across i) (most * product (r .rows)) (across-small i) b j))
+        (le-of-eq (mul-assoc most (product (r .rows)) (product (r .columns)))))
 
 -- all grown rows: their length, and the exact sum at each place
 pub length-full : (r : Recipe) (p : Picture) → length (full r p) ≡ fullHeight r (p .height) * fullWidth r (p .width)

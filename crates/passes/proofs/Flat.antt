@@ -127,4 +127,4 @@ module _ (r : Recipe) (p : Picture) where
         let pos : 0 < W = omega arith in
         let q : k / W * W + k % W ≡ k = div-add-mod' k W in
         le-trans (le-of-eq (ap passed (sym q) ∙ passed-exact g (k % W) (k / W) (mod-lt k pos)))
-        (exact-small r p small (k % W) (k / W))
+        (exact-small r p 255 small (k % W) (k / W))

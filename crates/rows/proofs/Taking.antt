@@ -58,7 +58,7 @@ module _ (r : Recipe) (p : Picture) (j : ℕ) (row : List ℕ) (is : row ≡ ful
     unfolding sameSum
     taken-bounded small i =
         elim (decLt i (p .width)) [
-          | yes h ↦ le-trans (le-of-eq (taken-at i h)) (exact-small r p small (sameColumn r i) (sameRow r j))
+          | yes h ↦ le-trans (le-of-eq (taken-at i h)) (exact-small r p 255 small (sameColumn r i) (sameRow r j))
           | no h ↦ omega (arith, List·getD-eq-default taken 0 (past i (omega arith)))
         ]
       where

@@ -79,7 +79,7 @@ module _ (r : Recipe) (p : Picture) where
   module _ (pos : 0 < gain r) (light : gain r ≤ 2 ^ 44) (small : (k : ℕ) → getD (p .pixels) k 0 ≤ 255) where
     exact-fits : (i j : ℕ) → exact r p i j % 2 ^ 64 ≡ exact r p i j
     exact-fits i j =
-        let h : exact r p i j ≤ 255 * 2 ^ 44 = le-trans (exact-small r p small i j) (mul-le-mul-left 255 light) in
+        let h : exact r p i j ≤ 255 * 2 ^ 44 = le-trans (exact-small r p 255 small i j) (mul-le-mul-left 255 light) in
         omega arith
 
     -- the row that enters
@@ -88,7 +88,7 @@ module _ (r : Recipe) (p : Picture) where
     entered e row d =
         record {
           wide = ap length d ∙ length-tab W (line p e);
-          values = λ k h. ap (λ l. getD l k 0) d ∙ getD-tab W (line p e) k 0 h ∙ omega (arith, pixel-small r p small k e);
+          values = λ k h. ap (λ l. getD l k 0) d ∙ getD-tab W (line p e) k 0 h ∙ omega (arith, pixel-small r p 255 small k e);
         }
 
     module _ (e : ℕ) (row cells : List ℕ) (is : row ≡ tab W (line p e)) (h : Honest e cells) where

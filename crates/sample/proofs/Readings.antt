@@ -54,7 +54,7 @@ module _ (r : Recipe) (p : Picture) (i j : ℕ) (x : Point) (told : pointTold x 
     unfolding sameSum
     can-read small =
         let k = measures in
-        let most = exact-small r p small (sameColumn r i) (sameRow r j) in
+        let most = exact-small r p 255 small (sameColumn r i) (sameRow r j) in
         (k .none, k .weight, omega (arith, k .weight, k .accepted .light), omega (arith, k .weight, sum .1, most))
 
     pub is-read : (c : Choice) (v : Reading) → v ≡ expressed c (m .gain) s → accepted v ≡ answer (readingChecks r p i j) (reading c r p i j)
