@@ -9,6 +9,7 @@ use common::any_jobs::any_bytes;
 use common::job_parts::{Parts, EXAMPLE};
 use common::program::{agrees, agrees_after, Way};
 use common::{each_seed, meets};
+use reference::boxes;
 use reference::random::Random;
 use std::time::Duration;
 
@@ -148,7 +149,7 @@ fn up_to_65536_bytes() {
     ] {
         let mut bytes = largest(&mut random, rows, columns, sides).bytes();
         let text = agrees(&bytes, Way::Pipe);
-        let grown = usize::from(sides[1]) + reference::reach(columns);
+        let grown = usize::from(sides[1]) + reference::reach(&boxes(columns));
         assert_eq!(text.lines().count(), 1 + grown, "{sides:?}");
         bytes.push(0);
         refuses(&bytes, 14);

@@ -10,7 +10,7 @@ use common::difference_pairs::{any_pair, parity_agrees};
 use common::pairs::case_of;
 use common::pictures::{any_cells, any_length, any_picture, any_sides, larger_picture};
 use common::pictures::{products, repaint, some_places, Picture, LIGHT};
-use common::{accepted, agree_greys, count, each_seed, filter, meets};
+use common::{accepted, agree_greys, count, each_seed, filter_of, meets};
 use reference::random::Random;
 use reference::{reach, Choice, Reading, Recipe};
 
@@ -60,11 +60,11 @@ fn exchange_turns_the_sign() {
         if difference(seed) > 0 {
             return;
         }
-        let [a, b] = pair.map(|recipe| filter(&recipe.rows, &recipe.columns));
+        let [a, b] = pair.map(|recipe| filter_of(&recipe));
         let by = |a: &Filter, b: &Filter| {
             accepted::difference([a, b], picture.width, picture.height, &picture.pixels)
         };
-        let back: Vec<i16> = by(&b, &a).iter().map(|value| -value).collect();
+        let back: Vec<i64> = by(&b, &a).iter().map(|value| -value).collect();
         assert_eq!(by(&a, &b), back, "seed {seed}: {a:?}, {b:?}");
     });
 }
@@ -110,7 +110,7 @@ fn sum_at(recipe: &Recipe, picture: &Picture, place: (usize, usize)) -> u64 {
 }
 
 /// The difference of the reference at a place.
-fn difference_at([a, b]: [&Recipe; 2], picture: &Picture, place: (usize, usize)) -> i16 {
+fn difference_at([a, b]: [&Recipe; 2], picture: &Picture, place: (usize, usize)) -> i64 {
     let [x, y] = [a, b].map(|recipe| {
         let card = reference::scale_card(recipe).expect("the recipe is accepted");
         (sum_at(recipe, picture, place), card.weight)
@@ -137,7 +137,7 @@ fn places_of_larger_pictures_agree() {
         repaint(&mut random, &mut picture.pixels);
         let (width, height) = (picture.width, picture.height);
         let [a, b] = &pair;
-        let filters = [a, b].map(|recipe| filter(&recipe.rows, &recipe.columns));
+        let filters = [a, b].map(filter_of);
         let found = accepted::difference(filters.each_ref(), width, height, &picture.pixels);
         let mut places = some_places(&mut random, a, &picture);
         places.extend(some_places(&mut random, b, &picture));

@@ -9,9 +9,9 @@ use common::agree::Answer;
 use common::near_misses::{equal_powers, near_misses};
 use common::pairs::{accepted_recipe, case_of, disguised, Maker, MAKERS};
 use common::pairs::{added, changed, dropped, exchanged, joined, moved, other_ones, reordered};
-use common::{agree, any_filter, damage, each_seed, filter, Case};
+use common::{agree, any_filter, damage, each_seed, filter_of, Case};
 use reference::random::Random;
-use reference::Recipe;
+use reference::{boxes, BoxFilter, Recipe};
 
 /// The call on two recipes.
 fn compare(random: &mut Random, seed: u64, a: &Recipe, b: &Recipe) -> Answer {
@@ -107,7 +107,7 @@ fn unrelated_pairs_agree() {
 fn cut(seed: u64) -> Answer {
     let mut random = Random::new(seed);
     let recipe = accepted_recipe(&mut random);
-    let long = filter(&recipe.rows, &recipe.columns);
+    let long = filter_of(&recipe);
     let mut short = long;
     let cascade = match random.coin() {
         true => &mut short.rows,
@@ -268,23 +268,24 @@ fn any_near_miss(random: &mut Random, pairs: &[[Vec<u8>; 2]]) -> [Vec<u8>; 2] {
     }
 }
 
-/// A recipe of a list and further widths, these behind the list or on the other
+/// A recipe of a list and further boxes, these behind the list or on the other
 /// axis.
-fn placed(place: usize, list: &[u8], further: &[u8]) -> Recipe {
+fn placed(place: usize, list: &[BoxFilter], further: &[BoxFilter]) -> Recipe {
     let long = [list, further].concat();
-    match place {
-        0 => Recipe::new(&long, &[]),
-        1 => Recipe::new(&[], &long),
-        2 => Recipe::new(list, further),
-        _ => Recipe::new(further, list),
-    }
+    let (rows, columns) = match place {
+        0 => (long, vec![]),
+        1 => (vec![], long),
+        2 => (list.to_vec(), further.to_vec()),
+        _ => (further.to_vec(), list.to_vec()),
+    };
+    Recipe { rows, columns }
 }
 
 /// A near miss with the same further widths on both sides. These may be its own
 /// two lists: then both sides have the same set of widths.
 fn extended(seed: u64, pairs: &[[Vec<u8>; 2]]) -> Answer {
     let mut random = Random::new(seed);
-    let [x, y] = any_near_miss(&mut random, pairs);
+    let [x, y] = any_near_miss(&mut random, pairs).map(|list| boxes(&list));
     let further = match random.between(0, 3) {
         0 => [&x[..], &y[..]].concat(),
         1 => random.one_of(&[&x, &y]).clone(),

@@ -10,7 +10,7 @@ use common::pictures::{pictured, repaint, some_places, Picture, LIGHT};
 use common::sums::{any_sums, weight};
 use common::{accepted, agree_greys, count, each_seed, filter, meets, recipe_of, Case};
 use reference::random::Random;
-use reference::{Choice, Reading, Recipe};
+use reference::{Choice, Reading, Recipe, LARGEST_GREY};
 
 fn rounding(seed: u64) -> u8 {
     let (case, mut random) = picture_case(seed);
@@ -127,11 +127,15 @@ fn random_rows_meet_every_number_and_kind() {
 }
 
 /// Kinds of pictures: black, white, black but for one pixel.
-fn kinds_of_picture(pixels: &[u8]) -> [bool; 3] {
-    let all = |value: u8| pixels.iter().all(|&pixel| pixel == value);
+fn kinds_of_picture(pixels: &[u64]) -> [bool; 3] {
+    let all = |value: u64| pixels.iter().all(|&pixel| pixel == value);
     let lit = pixels.iter().filter(|&&pixel| pixel > 0).count();
     let large = pixels.len() > 1;
-    [large && all(0), large && all(255), large && lit == 1]
+    [
+        large && all(0),
+        large && all(LARGEST_GREY),
+        large && lit == 1,
+    ]
 }
 
 /// How often the first cases meet each number, and how often an accepted one is

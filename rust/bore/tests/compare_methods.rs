@@ -8,7 +8,7 @@ mod common;
 use common::agree_methods;
 use common::pictures::{any_cells, any_length, larger_picture, pictured, Picture, LIGHT};
 use common::three::three_methods;
-use common::{count, each_seed, Case};
+use common::{count, each_seed, some_width, Case};
 use reference::random::Random;
 use reference::Recipe;
 
@@ -91,7 +91,7 @@ fn random_cases_meet_every_number_and_limit() {
         }
         let (case, _, picture) = pictured(seed);
         let Recipe { rows, columns } = case.recipe();
-        let wider = |list: &[u8], side| list.iter().any(|&n| usize::from(n) > side);
+        let wider = |list, side| some_width(list, |n| n > side);
         let met = [
             reference::weight(&case.recipe()) == reference::MOST_WEIGHT,
             reference::reach(&rows) == 255,

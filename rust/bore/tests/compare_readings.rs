@@ -10,6 +10,7 @@ use common::pictures::{any_place, larger_picture, past, picture_filter, pictured
 use common::pictures::{some_places, Picture};
 use common::{count, each_seed, meets, Case};
 use reference::random::Random;
+use reference::BoxFilter;
 
 /// The case of a seed with a picture and a place.
 fn placed(seed: u64) -> (Case, Random, Picture, (usize, usize)) {
@@ -89,7 +90,7 @@ fn random_places_meet_every_number_and_kind() {
         }
         let (case, _, picture, (column, row)) = placed(seed);
         let recipe = case.recipe();
-        let over = |list: &[u8], at: usize, side: usize| {
+        let over = |list: &[BoxFilter], at: usize, side: usize| {
             let reach = reference::reach(list);
             let last = at + reach / 2;
             [last < reach, last >= side]

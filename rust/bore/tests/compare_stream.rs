@@ -10,7 +10,7 @@ use common::agree_stream::{start, state_of, without_sums, Call, Run};
 use common::lent::Lent;
 use common::pictures::picture_case;
 use common::pictures::{accepted_sides, any_cells, any_length, any_sides};
-use common::{count, damage_state, each_seed, meets, recipe_of, refilled, Case};
+use common::{count, damage_state, each_seed, meets, recipe_of, refilled, some_width, Case};
 use reference::random::Random;
 use reference::Recipe;
 
@@ -59,11 +59,11 @@ impl Met {
     fn stages(&mut self, state: &State) {
         let Recipe { rows, columns } = recipe_of(&state.filter);
         let e = state.emitted;
-        let ring = |at: &dyn Fn(usize) -> bool| columns.iter().any(|&n| n > 2 && at(n.into()));
+        let ring = |at: &dyn Fn(usize) -> bool| some_width(&columns, |n| n > 2 && at(n));
         let met = [
-            rows.contains(&2),
-            rows.iter().any(|&n| n > 2),
-            columns.contains(&2),
+            some_width(&rows, |n| n == 2),
+            some_width(&rows, |n| n > 2),
+            some_width(&columns, |n| n == 2),
             // The first row, one of the first n, one after them, a drain.
             ring(&|_| e == 0),
             ring(&|n| 0 < e && e < n),
@@ -79,9 +79,9 @@ impl Met {
         let (rows, columns) = (&recipe.rows, &recipe.columns);
         let (width, height) = (state.width, state.height);
         let grown = reference::grown_sides(&recipe, width, height).unwrap();
-        let wider = |list: &[u8], side| list.iter().any(|&n| usize::from(n) > side);
+        let wider = |list, side| some_width(list, |n| n > side);
         // A box whose cells are used again and again.
-        let often = |list: &[u8], side| list.iter().any(|&n| n > 2 && 2 * usize::from(n) < side);
+        let often = |list, side| some_width(list, |n| n > 2 && 2 * n < side);
         let met = [
             reference::weight(&recipe) == reference::MOST_WEIGHT,
             reference::reach(rows) == 255,

@@ -13,9 +13,9 @@ use common::accepted::{equal, moments};
 use common::near_misses::near_misses;
 use common::pairs::{disguised, MAKERS};
 use common::three::each_method;
-use common::{any_state, each_seed, filter, on_axis, recipe_of};
+use common::{any_state, each_seed, filter, filter_of, narrow, on_axis, recipe_of, widths_of};
 use reference::random::Random;
-use reference::Recipe;
+use reference::{Recipe, LARGEST_GREY};
 
 /// What a recipe makes of a picture: grown sides, weight, and the sums by each
 /// of the three methods.
@@ -26,7 +26,7 @@ struct Shown {
 }
 
 impl Shown {
-    fn new(filter: &Filter, width: usize, height: usize, pixels: &[u8]) -> Shown {
+    fn new(filter: &Filter, width: usize, height: usize, pixels: &[u64]) -> Shown {
         let mut sides = (0, 0);
         let number = bore::full_size(filter, width, height, &mut sides.0, &mut sides.1);
         assert_eq!(number, 0, "{filter:?}");
@@ -96,7 +96,7 @@ fn one_pixel_decides() {
 fn one_pixel_tells_near_misses_apart() {
     let mut random = Random::new(1);
     for [x, y] in near_misses() {
-        let z = disguised(&mut random, &Recipe::new(&x, &[])).rows;
+        let z = widths_of(&disguised(&mut random, &Recipe::new(&x, &[])).rows);
         let note = format_args!("{x:?}, {y:?}, {z:?}");
         for on_rows in [true, false] {
             let filters = [&x, &y, &z].map(|list| on_axis(list, on_rows));
@@ -119,11 +119,11 @@ fn small_pair(random: &mut Random) -> [Filter; 2] {
         other = recipe.clone();
     }
     let other = disguised(random, &other);
-    [recipe, other].map(|recipe| filter(&recipe.rows, &recipe.columns))
+    [recipe, other].map(|recipe| filter_of(&recipe))
 }
 
 /// Random pixels, and the sides.
-fn small_picture(random: &mut Random) -> (usize, usize, Vec<u8>) {
+fn small_picture(random: &mut Random) -> (usize, usize, Vec<u64>) {
     let (width, height) = (random.between(1, 6), random.between(1, 6));
     let pixels = random.pixels(width * height);
     (width, height, pixels)
@@ -134,7 +134,7 @@ fn pair_on_pictures(seed: u64) -> bool {
     let mut random = Random::new(seed);
     let [a, b] = small_pair(&mut random);
     let (width, height, mut pixels) = small_picture(&mut random);
-    pixels[random.between(0, width * height - 1)] = random.between(1, 255) as u8;
+    pixels[random.between(0, width * height - 1)] = random.between(1, LARGEST_GREY as usize) as u64;
     let same = equal(&a, &b);
     let [shown_a, shown_b] = [a, b].map(|filter| Shown::new(&filter, width, height, &pixels));
     let found = shown_a.agreements(&shown_b);
@@ -202,9 +202,10 @@ fn rows_in_common(seed: u64) -> usize {
     let mut random = Random::new(seed);
     let recipe = random.valid_recipe(8);
     let other = disguised(&mut random, &recipe);
-    let [a, b] = [recipe, other].map(|recipe| filter(&recipe.rows, &recipe.columns));
+    let [a, b] = [recipe, other].map(|recipe| filter_of(&recipe));
     assert!(equal(&a, &b), "seed {seed}: {a:?}, {b:?}");
     let (width, _, pixels) = small_picture(&mut random);
+    let pixels: Vec<u8> = narrow(&pixels);
     let picture: Vec<&[u8]> = pixels.chunks(width).collect();
     let [rows_a, rows_b] = [a, b].map(|filter| yielded(&mut random, &filter, &picture));
     let common = rows_a.len().min(rows_b.len());

@@ -180,8 +180,7 @@ fn weight_product_at_the_limit() {
 #[test]
 fn values_about_the_half() {
     let empty = filter(&[], &[]);
-    for pixel in 0..=255 {
-        let value = i32::from(pixel);
+    for value in 0..=255 {
         for (b, expected) in [
             // Less all, a half, a third, a quarter, a 255th and a 65,025th.
             (empty, 0),
@@ -191,11 +190,10 @@ fn values_about_the_half() {
             (filter(&[255], &[]), (508 * value + 255) / 510),
             (filter(&[255], &[255]), value),
         ] {
-            let expected = expected as i16;
-            let found = accepted::difference([&empty, &b], 1, 1, &[pixel]);
-            assert_eq!(found, [expected], "{pixel}, {b:?}");
-            let found = accepted::difference([&b, &empty], 1, 1, &[pixel]);
-            assert_eq!(found, [-expected], "{pixel}, {b:?}");
+            let found = accepted::difference([&empty, &b], 1, 1, &[value as u64]);
+            assert_eq!(found, [expected], "{value}, {b:?}");
+            let found = accepted::difference([&b, &empty], 1, 1, &[value as u64]);
+            assert_eq!(found, [-expected], "{value}, {b:?}");
         }
     }
 }

@@ -7,6 +7,7 @@ use bore::{Cascade, Filter};
 use common::causes::{from_bits, with_refusals};
 use common::{agree, filter, list_of, list_of_reach, refilled, shuffled};
 use common::{Case, ABOVE, BELOW, EQUAL, WRAPPED};
+use reference::boxes;
 use reference::random::Random;
 
 /// Widths and heights at the limits and far beyond them.
@@ -142,7 +143,7 @@ fn weight_at_the_limit() {
     }
     for (list, number) in lists {
         let list = shuffled(&mut random, &list);
-        let reach = reference::reach;
+        let reach = |widths| reference::reach(&boxes(widths));
         for cut in 0..=list.len() {
             let (rows, columns) = list.split_at(cut);
             let lengths_fit = rows.len() <= 48 && columns.len() <= 48;
@@ -215,7 +216,7 @@ fn kernel_takes_one_length_alone() {
     let lists: [&[u8]; 7] = [&[], &[1], &[2], &[1; 48], &[2; 44], &[255, 2], &[9, 1, 4]];
     for list in lists {
         let case = Case::fixed(&mut random, filter(list, list));
-        let right = reference::reach(list) + 1;
+        let right = reference::reach(&boxes(list)) + 1;
         for length in (0..300).chain([1023, 1024, 65_536, (1 << 20) + right]) {
             for cascades in case.axes() {
                 let found = agree::kernel(&case, &mut random, cascades, length);

@@ -10,6 +10,7 @@ use common::agree_greys::{blur, round};
 use common::causes::{first, from_bits, with_refusals};
 use common::pictures::{Picture, REFUSED};
 use common::{filter, Case, BELOW};
+use reference::boxes;
 use reference::random::Random;
 
 /// Rows 2,3 and columns 2,2. On a picture 5 by 3 the grown picture has 40 sums,
@@ -99,7 +100,7 @@ fn rounding_turns_at_the_half() {
         let filter = filter(rows, columns);
         let case = Case::fixed(&mut random, filter);
         for k in 0..=254 {
-            let half = u64::from(k) * weight + weight / 2;
+            let half = k * weight + weight / 2;
             let sums = [half - 1, half, half + 1];
             let at_half = if weight % 2 == 0 { k + 1 } else { k };
             let grays = accepted::round(&filter, &sums);
@@ -118,7 +119,7 @@ fn rounding_takes_sums_up_to_white() {
         let case = Case::fixed(&mut random, filter);
         assert_eq!(accepted::moments(&filter).gain, weight, "{filter:?}");
         let whole: Vec<u64> = (0..=255).map(|k| k * weight).collect();
-        let every: Vec<u8> = (0..=255).collect();
+        let every: Vec<u64> = (0..=255).collect();
         assert_eq!(accepted::round(&filter, &whole), every, "weight {weight}");
         let most = 255 * weight;
         for bright in [most + 1, 256 * weight, 1 << 52, 1 << 63, u64::MAX] {
@@ -228,10 +229,10 @@ fn just_enough_cells() {
         (&[], &[]),
     ] {
         let case = Case::fixed(&mut random, filter(rows, columns));
+        let [rx, ry] = [rows, columns].map(|list| reference::reach(&boxes(list)));
         for (width, height) in [(1, 1), (1, 2), (2, 1), (3, 5)] {
             let size = width * height;
-            let grown_width = width + reference::reach(rows);
-            let needed = 2 * grown_width * (height + reference::reach(columns));
+            let needed = 2 * (width + rx) * (height + ry);
             let picture = Picture::random(&mut random, width, height, size);
             for (cells, number) in [(needed, 0), (needed + 1, 0), (needed - 1, 8)] {
                 let found = blur(&case, &mut random, &picture, [size, cells]);
@@ -271,7 +272,7 @@ fn where_one_pixel_goes() {
 fn white_and_black_pictures() {
     for (rows, columns, _) in WEIGHTS {
         let filter = filter(rows, columns);
-        let [rx, ry] = [rows, columns].map(reference::reach);
+        let [rx, ry] = [rows, columns].map(|list| reference::reach(&boxes(list)));
         let (width, height) = (rx + 3, ry + 3);
         let size = width * height;
         let grays = accepted::blur(&filter, width, height, &vec![255; size]);

@@ -9,7 +9,7 @@ use common::causes::{first, from_bits, with_refusals};
 use common::job_parts::{Parts, EXAMPLE};
 use common::pictures::{Picture, REFUSED};
 use common::values::fields_of_job;
-use common::{filter, on_axis, Case, ABOVE, BELOW, EQUAL, WRAPPED};
+use common::{filter, narrow, on_axis, Case, ABOVE, BELOW, EQUAL, WRAPPED};
 use reference::random::Random;
 
 /// Rows 2,3 and columns 2,2. With a picture 5 by 3 the job has 30 bytes.
@@ -236,7 +236,7 @@ fn sides_at_the_limits() {
 fn sides_are_low_byte_first() {
     let mut random = Random::new(10);
     let mut bytes = b"BOR\x01\x00\x00\x00\x02\x01\x01\x02".to_vec();
-    bytes.extend(random.pixels(258 * 513));
+    bytes.extend(narrow::<_, u8>(&random.pixels(258 * 513)));
     assert_eq!(read(&mut random, &bytes), 0);
     let mut job = any_job(&mut random);
     assert_eq!(bore::read_job(&bytes, &mut job), 0);

@@ -11,6 +11,7 @@ use common::lent::Lent;
 use common::pictures::{Picture, REFUSED};
 use common::values::fields_of_state;
 use common::{any_state, filter, refilled, Case};
+use reference::boxes;
 use reference::random::Random;
 
 /// Rows 2,3 and columns 2,2. On a picture 5 by 3: R has 4 numbers, C has 3, a
@@ -361,7 +362,7 @@ fn counts() {
         let filter = filter(rows, columns);
         let mut state = any_state(&mut random);
         let mut cells = vec![0; 400_000];
-        let mut out = vec![0; width + reference::reach(rows)];
+        let mut out = vec![0; width + reference::reach(&boxes(rows))];
         assert_eq!(bore::start(&filter, width, 1, &mut cells, &mut state), 0);
         let mut found = 7;
         let pixels = vec![255; width];

@@ -10,6 +10,7 @@ use common::agree_greys::sample;
 use common::causes::{first, from_bits, with_refusals};
 use common::pictures::{Picture, REFUSED};
 use common::{filter, Case};
+use reference::boxes;
 use reference::random::Random;
 
 /// Places outside a picture 5 by 3. Some would have the index of a place inside
@@ -87,7 +88,7 @@ fn the_lowest_of_several_refusals_wins() {
 }
 
 /// The three quantities at a place.
-fn read(filter: &Filter, width: usize, pixels: &[u8], place: (usize, usize)) -> [Sample; 3] {
+fn read(filter: &Filter, width: usize, pixels: &[u64], place: (usize, usize)) -> [Sample; 3] {
     let height = pixels.len() / width;
     [Quantity::Gray, Quantity::Sum, Quantity::Mean]
         .map(|quantity| accepted::sample(filter, width, height, pixels, place, quantity))
@@ -105,7 +106,7 @@ fn the_largest_sums() {
         (&[255, 2], &[128, 129], 8_421_120),
     ] {
         let filter = filter(rows, columns);
-        let [rx, ry] = [rows, columns].map(reference::reach);
+        let [rx, ry] = [rows, columns].map(|list| reference::reach(&boxes(list)));
         let white = vec![255; (rx + 1) * (ry + 1)];
         let place = (rx.div_ceil(2), ry.div_ceil(2));
         let expected = [
@@ -151,7 +152,7 @@ fn readings_are_those_of_the_blur() {
         let grays = accepted::blur(&filter, 7, 6, &pixels);
         for (k, &gray) in grays.iter().enumerate() {
             let found = read(&filter, 7, &pixels, (k % 7, k / 7))[0];
-            assert_eq!(found, Sample::Gray(gray), "place {k}, {filter:?}");
+            assert_eq!(found, Sample::Gray(gray as u8), "place {k}, {filter:?}");
         }
     }
 }

@@ -34,7 +34,8 @@ fn the_sample_is_made_of_its_picture() {
     assert_eq!((picture.width, picture.height), (24, 10));
     let job = sample("wall.job");
     let recipe = Recipe::new(&[2, 2], &[2, 2]);
-    let expected = reference::write_job(&recipe, 24, 10, &picture.pixels, 11 + 4 + 240);
+    let pixels = reference::pixels_of(&picture.pixels);
+    let expected = reference::write_job(&recipe, 24, 10, &pixels, 11 + 4 + 240);
     assert_eq!(Ok(&job), expected.as_ref());
     let made = make_job::job(&filter(&[2, 2], &[2, 2]), &picture);
     assert_eq!(Ok(job), made);

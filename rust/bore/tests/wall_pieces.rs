@@ -8,12 +8,14 @@ mod common;
 use bore::{Filter, Quantity, Sample};
 use common::accepted::{blur, difference, equal, moments, round, sample};
 use common::three::three_methods;
-use common::{cascade, filter};
+use common::{cascade_of, filter};
+use reference::boxes;
 
 /// The coefficients of an accepted list.
-fn kernel(list: &[u8]) -> Vec<u64> {
-    let mut out = vec![0; reference::reach(list) + 1];
-    assert_eq!(bore::kernel(&cascade(list), &mut out), 0, "{list:?}");
+fn kernel(widths: &[u8]) -> Vec<u64> {
+    let list = boxes(widths);
+    let mut out = vec![0; reference::reach(&list) + 1];
+    assert_eq!(bore::kernel(&cascade_of(&list), &mut out), 0, "{list:?}");
     out
 }
 
@@ -41,7 +43,7 @@ fn equal_lists(a: &[u8], b: &[u8]) -> bool {
 }
 
 /// The exact sums of an accepted picture, by all three methods.
-fn sums(rows: &[u8], columns: &[u8], width: usize, height: usize, pixels: &[u8]) -> Vec<u64> {
+fn sums(rows: &[u8], columns: &[u8], width: usize, height: usize, pixels: &[u64]) -> Vec<u64> {
     let found = three_methods(&filter(rows, columns), width, height, pixels);
     found.expect("the recipe and the picture are accepted")
 }
@@ -149,7 +151,7 @@ fn twos_follow_the_rule_of_the_triangle() {
         row = [1].into_iter().chain(pairs).chain([1]).collect();
     }
     let mut out = [7; 46];
-    assert_eq!(bore::kernel(&cascade(&[2; 45]), &mut out), 4);
+    assert_eq!(bore::kernel(&cascade_of(&boxes(&[2; 45])), &mut out), 4);
     assert_eq!(out, [7; 46]);
 }
 
@@ -234,7 +236,7 @@ fn difference_of_one_pixel() {
 #[test]
 fn blurs_are_not_rounded_before_the_difference() {
     let [a, b] = [filter(&[], &[]), filter(&[2, 2], &[])];
-    let [gray_a, gray_b] = [&a, &b].map(|filter| i16::from(blur(filter, 1, 1, &[255])[0]));
+    let [gray_a, gray_b] = [&a, &b].map(|filter| blur(filter, 1, 1, &[255])[0]);
     assert_eq!(gray_a - gray_b, 127);
     assert_eq!(difference([&a, &b], 1, 1, &[255]), [128]);
 }
@@ -304,10 +306,9 @@ fn the_largest_sum() {
 
 #[test]
 fn the_largest_sides() {
-    let pixels: Vec<u8> = (0..1 << 20).map(|k: u32| (k % 251) as u8).collect();
-    let same: Vec<u64> = pixels.iter().map(|&pixel| pixel.into()).collect();
-    assert!(sums(&[], &[], 1024, 1024, &pixels) == same);
-    assert!(sums(&[1; 48], &[1; 48], 1024, 1024, &pixels) == same);
+    let pixels: Vec<u64> = (0..1 << 20).map(|k| k % 251).collect();
+    assert!(sums(&[], &[], 1024, 1024, &pixels) == pixels);
+    assert!(sums(&[1; 48], &[1; 48], 1024, 1024, &pixels) == pixels);
     let empty = filter(&[], &[]);
     assert_eq!(three_methods(&empty, 1025, 1, &pixels[..1025]), Err(5));
     assert_eq!(three_methods(&empty, 1, 1025, &pixels[..1025]), Err(5));

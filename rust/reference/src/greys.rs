@@ -1,29 +1,31 @@
 //! Rounding to greys, the same-size blur, the difference of two recipes and
 //! the reading at one place.
 
-use crate::picture::{check_picture, grown_size, Picture};
+use crate::picture::{check_picture, grown_size, Picture, LARGEST_GREY};
 use crate::recipe::{accepted_weight, check, coefficients_of, reach, weight, Recipe, MOST_WEIGHT};
 
 /// (sum + weight / 2) / weight, both divisions downwards, for a sum of at most
-/// 255 times the weight.
-pub fn grey(sum: u64, weight: u64) -> u8 {
-    let half = u128::from(weight) / 2;
-    let rounded = (u128::from(sum) + half) / u128::from(weight);
-    u8::try_from(rounded).expect("the sum is at most 255 times the weight")
+/// the largest grey times the weight.
+pub fn grey(sum: u64, weight: u64) -> u64 {
+    assert!(
+        sum <= LARGEST_GREY * weight,
+        "{sum} is above {weight} times the largest grey"
+    );
+    (sum + weight / 2) / weight
 }
 
 /// The greys of a row of sums: refusals 1 to 4, then 7 for an output of another
-/// length than the row, then 11 for a sum above 255 times the weight.
-pub fn round_row(recipe: &Recipe, sums: &[u64], out_len: usize) -> Result<Vec<u8>, u8> {
+/// length than the row, then 11 for a sum above the largest grey times the
+/// weight.
+pub fn round_row(recipe: &Recipe, sums: &[u64], out_len: usize) -> Result<Vec<u64>, u8> {
     check(recipe)?;
     if out_len != sums.len() {
         return Err(7);
     }
-    let most = 255 * weight(recipe);
-    if sums.iter().any(|&sum| u128::from(sum) > most) {
+    let weight = accepted_weight(recipe);
+    if sums.iter().any(|&sum| sum > LARGEST_GREY * weight) {
         return Err(11);
     }
-    let weight = accepted_weight(recipe);
     Ok(sums.iter().map(|&sum| grey(sum, weight)).collect())
 }
 
@@ -36,7 +38,7 @@ fn same_size_sum(picture: &Picture, r: &[u64], c: &[u64], x: usize, y: usize) ->
 }
 
 /// The sums that the same-size blur takes, row by row.
-fn same_size_sums(recipe: &Recipe, w: usize, h: usize, pixels: &[u8]) -> Vec<u64> {
+fn same_size_sums(recipe: &Recipe, w: usize, h: usize, pixels: &[u64]) -> Vec<u64> {
     let r = coefficients_of(&recipe.rows);
     let c = coefficients_of(&recipe.columns);
     let picture = Picture { w, h, pixels };
@@ -59,10 +61,10 @@ pub fn same_size_blur(
     recipe: &Recipe,
     w: usize,
     h: usize,
-    pixels: &[u8],
+    pixels: &[u64],
     out_len: usize,
     cells_len: usize,
-) -> Result<Vec<u8>, u8> {
+) -> Result<Vec<u64>, u8> {
     check_picture(recipe, w, h, pixels.len())?;
     if out_len != w * h {
         return Err(7);
@@ -104,12 +106,12 @@ fn nearest(numerator: i128, denominator: i128) -> i128 {
 
 /// (sum_a times weight_b - sum_b times weight_a) over weight_a times weight_b,
 /// rounded to the nearest whole number, a half away from zero. Each sum is at
-/// most 255 times its weight.
-pub fn difference_of_sums(sum_a: u64, weight_a: u64, sum_b: u64, weight_b: u64) -> i16 {
+/// most the largest grey times its weight.
+pub fn difference_of_sums(sum_a: u64, weight_a: u64, sum_b: u64, weight_b: u64) -> i64 {
     let [sum_a, weight_a, sum_b, weight_b] = [sum_a, weight_a, sum_b, weight_b].map(i128::from);
     let numerator = sum_a * weight_b - sum_b * weight_a;
     let value = nearest(numerator, weight_a * weight_b);
-    i16::try_from(value).expect("a difference is from -255 to 255")
+    i64::try_from(value).expect("a difference is at most the largest grey in size")
 }
 
 /// The difference of recipes `a` and `b` on one picture: the refusals 1 to 4 of
@@ -119,10 +121,10 @@ pub fn difference(
     b: &Recipe,
     w: usize,
     h: usize,
-    pixels: &[u8],
+    pixels: &[u64],
     out_len: usize,
     cells_len: usize,
-) -> Result<Vec<i16>, u8> {
+) -> Result<Vec<i64>, u8> {
     check(a)?;
     check(b)?;
     check_picture(a, w, h, pixels.len())?;
@@ -154,7 +156,7 @@ pub enum Choice {
 /// The value of a reading.
 #[derive(Clone, Copy, Debug, PartialEq)]
 pub enum Reading {
-    Grey(u8),
+    Grey(u64),
     Sum(u64),
     Quotient(f64),
 }
@@ -164,7 +166,7 @@ pub fn reading(
     recipe: &Recipe,
     w: usize,
     h: usize,
-    pixels: &[u8],
+    pixels: &[u64],
     place: (usize, usize),
     choice: Choice,
 ) -> Result<Reading, u8> {

@@ -58,6 +58,11 @@ pub fn read_job(bytes: &[u8]) -> Result<Job, u8> {
     })
 }
 
+/// The pixels in the bytes of a job from its offset on.
+pub fn pixels_of(bytes: &[u8]) -> Vec<u64> {
+    bytes.iter().map(|&byte| u64::from(byte)).collect()
+}
+
 /// The length of a job in bytes; refusals 1 to 5.
 pub fn job_length(recipe: &Recipe, w: usize, h: usize) -> Result<usize, u8> {
     check_sides(recipe, w, h)?;
@@ -69,7 +74,7 @@ pub fn write_job(
     recipe: &Recipe,
     w: usize,
     h: usize,
-    pixels: &[u8],
+    pixels: &[u64],
     out_len: usize,
 ) -> Result<Vec<u8>, u8> {
     check_picture(recipe, w, h, pixels.len())?;
@@ -79,13 +84,16 @@ pub fn write_job(
     let mut job = HEAD.to_vec();
     job.push(recipe.rows.len() as u8);
     job.push(recipe.columns.len() as u8);
-    job.extend_from_slice(&recipe.rows);
-    job.extend_from_slice(&recipe.columns);
+    for list in [&recipe.rows, &recipe.columns] {
+        job.extend(list.iter().map(|one| one.width));
+    }
     for side in [w, h] {
         job.push((side % 256) as u8);
         job.push((side / 256) as u8);
     }
-    job.extend_from_slice(pixels);
+    for &pixel in pixels {
+        job.push(u8::try_from(pixel).expect("a pixel fits a byte"));
+    }
     Ok(job)
 }
 
@@ -98,7 +106,8 @@ fn printed(input: &[u8]) -> Result<String, u8> {
     if needed_cells(&job.recipe, job.w)? > PROGRAM_CELLS {
         return Err(8);
     }
-    let sums = exact_sums(&job.recipe, job.w, job.h, &input[job.offset..])?;
+    let pixels = pixels_of(&input[job.offset..]);
+    let sums = exact_sums(&job.recipe, job.w, job.h, &pixels)?;
     let (width, height) = grown_sides(&job.recipe, job.w, job.h)?;
     let weight = accepted_weight(&job.recipe);
     let mut text = format!("{width} {height} {weight}\n");

@@ -6,7 +6,8 @@
 //!
 //! A refusal is `Err` with the paper's number. Where the paper lends an output
 //! slice or work cells, a call here takes their lengths and returns the whole
-//! content of the output when it accepts; a refused call writes nothing.
+//! content of the output when it accepts; a refused call writes nothing. Pixels,
+//! greys and differences are plain numbers here, whatever they are lent as.
 
 #![forbid(unsafe_code)]
 
@@ -22,12 +23,16 @@ pub use greys::{
     difference, difference_cells, difference_of_sums, grey, reading, round_row, same_size_blur,
     same_size_cells, Choice, Reading,
 };
-pub use job::{boresums, job_length, read_job, write_job, Job, PROGRAM_BYTES, PROGRAM_CELLS};
-pub use picture::{check_picture, direct, exact_sums, grown_size, pass_by_pass, DirectOutput};
+pub use job::{
+    boresums, job_length, pixels_of, read_job, write_job, Job, PROGRAM_BYTES, PROGRAM_CELLS,
+};
+pub use picture::{
+    check_picture, direct, exact_sums, grown_size, pass_by_pass, DirectOutput, LARGEST_GREY,
+};
 pub use recipe::{
-    check, check_sides, coefficients, coefficients_of, grown_sides, list_cells, list_cost,
-    needed_cells, reach, row_cost, same, scale_card, weight, Recipe, ScaleCard, MOST_REACH,
-    MOST_SIDE, MOST_WEIGHT, MOST_WIDTHS,
+    boxes, check, check_sides, coefficients, coefficients_of, grown_sides, list_cells, list_cost,
+    needed_cells, reach, row_cost, same, scale_card, weight, BoxFilter, Recipe, ScaleCard,
+    MOST_REACH, MOST_SIDE, MOST_WEIGHT, MOST_WIDTHS,
 };
 pub use stream::{drain_refusal, row_refusal, start_refusal, Called, Started, State, Stream};
 pub use triangle::TRIANGLE;

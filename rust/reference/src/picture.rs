@@ -3,11 +3,15 @@
 
 use crate::recipe::{check_sides, coefficients_of, grown_sides, reach, Recipe};
 
-/// Pixels stored row by row; outside them everything is 0.
+/// The largest grey of a pixel, and of a sum that is rounded.
+pub const LARGEST_GREY: u64 = 255;
+
+/// Pixels stored row by row; outside them everything is 0. A pixel is a number
+/// of at most the largest grey.
 pub(crate) struct Picture<'a> {
     pub w: usize,
     pub h: usize,
-    pub pixels: &'a [u8],
+    pub pixels: &'a [u64],
 }
 
 impl Picture<'_> {
@@ -56,7 +60,7 @@ pub fn grown_size(recipe: &Recipe, w: usize, h: usize) -> Result<usize, u8> {
 }
 
 /// All exact sums, grown row by grown row; refusals 1 to 6.
-pub fn exact_sums(recipe: &Recipe, w: usize, h: usize, pixels: &[u8]) -> Result<Vec<u64>, u8> {
+pub fn exact_sums(recipe: &Recipe, w: usize, h: usize, pixels: &[u64]) -> Result<Vec<u64>, u8> {
     check_picture(recipe, w, h, pixels.len())?;
     let r = coefficients_of(&recipe.rows);
     let c = coefficients_of(&recipe.columns);
@@ -77,7 +81,7 @@ pub fn pass_by_pass(
     recipe: &Recipe,
     w: usize,
     h: usize,
-    pixels: &[u8],
+    pixels: &[u64],
     out_len: usize,
     cells_len: usize,
 ) -> Result<Vec<u64>, u8> {
@@ -106,7 +110,7 @@ pub fn direct(
     recipe: &Recipe,
     w: usize,
     h: usize,
-    pixels: &[u8],
+    pixels: &[u64],
     r_len: usize,
     c_len: usize,
     out_len: usize,

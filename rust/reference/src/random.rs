@@ -3,7 +3,8 @@
 //! seed always gives the same values.
 
 use crate::job::{job_length, write_job};
-use crate::recipe::{check, reach, Recipe};
+use crate::picture::LARGEST_GREY;
+use crate::recipe::{check, reach, BoxFilter, Recipe};
 
 /// Widths whose product is 2^44 + 11,952. All of them have a reach of 238
 /// together, so they may be shared between the lists in any way.
@@ -56,37 +57,41 @@ impl Random {
         }
     }
 
-    /// Puts `list` on one axis and `other` on the other, by chance.
-    fn on_some_axis(&mut self, list: Vec<u8>, other: Vec<u8>) -> Recipe {
-        let (rows, columns) = if self.coin() {
-            (list, other)
+    /// Puts the widths `list` on one axis and `other` on the other, by chance.
+    fn on_some_axis(&mut self, list: &[u8], other: &[u8]) -> Recipe {
+        if self.coin() {
+            Recipe::new(list, other)
         } else {
-            (other, list)
-        };
-        Recipe { rows, columns }
+            Recipe::new(other, list)
+        }
     }
 
     /// Shares widths between the two lists by chance, in random order.
     fn shared(&mut self, widths: &[u8]) -> Recipe {
         let mut widths = widths.to_vec();
         self.shuffle(&mut widths);
-        let mut recipe = Recipe::default();
+        let (mut rows, mut columns) = (Vec::new(), Vec::new());
         for n in widths {
             if self.coin() {
-                recipe.rows.push(n);
+                rows.push(n);
             } else {
-                recipe.columns.push(n);
+                columns.push(n);
             }
         }
-        recipe
+        Recipe::new(&rows, &columns)
+    }
+
+    /// Any grey.
+    pub fn grey(&mut self) -> u64 {
+        self.word() % (LARGEST_GREY + 1)
     }
 
     /// Pixels, one in four of them black or white.
-    pub fn pixels(&mut self, count: usize) -> Vec<u8> {
+    pub fn pixels(&mut self, count: usize) -> Vec<u64> {
         let mut pixels = Vec::new();
         for _ in 0..count {
-            let value = self.word() as u8;
-            pixels.push(self.one_of(&[0, 255, value, value, value, value, value, value]));
+            let any = self.grey();
+            pixels.push(self.one_of(&[0, LARGEST_GREY, any, any, any, any, any, any]));
         }
         pixels
     }
@@ -108,7 +113,7 @@ impl Random {
             } else {
                 &mut longer.columns
             };
-            list.push(n);
+            list.push(BoxFilter::of_width(n));
             if reach(list) <= most_reach && check(&longer).is_ok() {
                 recipe = longer;
             }
@@ -129,7 +134,7 @@ impl Random {
         for _ in 0..self.between(0, 5) {
             other.push(self.between(1, 4) as u8);
         }
-        self.on_some_axis(list, other)
+        self.on_some_axis(&list, &other)
     }
 
     /// A recipe that is refused 2: a width 0 stands somewhere in it.
@@ -144,7 +149,7 @@ impl Random {
         for _ in 0..self.between(0, 3) {
             other.push(self.one_of(&[1, 2, 3, 200]));
         }
-        self.on_some_axis(list, other)
+        self.on_some_axis(&list, &other)
     }
 
     /// A recipe with exactly this reach, 1 to 508, on one axis and a small one
@@ -163,8 +168,8 @@ impl Random {
             rest -= part;
         }
         self.shuffle(&mut list);
-        let other = vec![self.between(1, 3) as u8];
-        self.on_some_axis(list, other)
+        let other = self.between(1, 3) as u8;
+        self.on_some_axis(&list, &[other])
     }
 
     /// An accepted recipe whose weight is exactly 2^44.
@@ -184,7 +189,7 @@ impl Random {
         let (last, others) = BELOW.split_last().expect("the list is not empty");
         let mut others = others.to_vec();
         self.shuffle(&mut others);
-        self.on_some_axis(others, vec![*last])
+        self.on_some_axis(&others, &[*last])
     }
 
     /// A recipe that is refused 4: its weight is 2^44 + 11,952.

@@ -11,29 +11,64 @@ pub const MOST_WEIGHT: u128 = 17_592_186_044_416;
 /// The largest width or height of a picture.
 pub const MOST_SIDE: usize = 1024;
 
-/// A row list and a column list of widths. A list of more than 48 entries
+/// A box: as many coefficients 1 as its width says, one at each `spread`-th
+/// place from 0 on. All boxes of the paper have spread 1.
+#[derive(Clone, Copy, Debug, PartialEq, Eq, PartialOrd, Ord)]
+pub struct BoxFilter {
+    pub width: u8,
+    pub spread: u8,
+}
+
+impl BoxFilter {
+    /// The box of a plain width.
+    pub fn of_width(width: u8) -> BoxFilter {
+        BoxFilter { width, spread: 1 }
+    }
+
+    /// (n - 1) times the spread, the place of the last coefficient. A width of
+    /// 0, which every call refuses, counts nothing here.
+    fn reach(self) -> usize {
+        usize::from(self.width).saturating_sub(1) * usize::from(self.spread)
+    }
+
+    /// The coefficients from place 0 to the reach.
+    fn coefficients(self) -> Vec<u128> {
+        let mut coefficients = vec![0; self.reach() + 1];
+        for k in 0..usize::from(self.width) {
+            coefficients[k * usize::from(self.spread)] = 1;
+        }
+        coefficients
+    }
+}
+
+/// The list of boxes of plain widths.
+pub fn boxes(widths: &[u8]) -> Vec<BoxFilter> {
+    widths.iter().map(|&n| BoxFilter::of_width(n)).collect()
+}
+
+/// A row list and a column list of boxes. A list of more than 48 entries
 /// stands for a list whose count is above 48.
 #[derive(Clone, Debug, Default, PartialEq, Eq)]
 pub struct Recipe {
-    pub rows: Vec<u8>,
-    pub columns: Vec<u8>,
+    pub rows: Vec<BoxFilter>,
+    pub columns: Vec<BoxFilter>,
 }
 
 impl Recipe {
+    /// The recipe of two lists of plain widths.
     pub fn new(rows: &[u8], columns: &[u8]) -> Recipe {
         Recipe {
-            rows: rows.to_vec(),
-            columns: columns.to_vec(),
+            rows: boxes(rows),
+            columns: boxes(columns),
         }
     }
 }
 
-/// The sum of (n - 1) over a list. A width of 0, which every call refuses,
-/// counts nothing here.
-pub fn reach(list: &[u8]) -> usize {
+/// The sum of the reaches of a list's boxes.
+pub fn reach(list: &[BoxFilter]) -> usize {
     let mut sum = 0;
-    for &n in list {
-        sum += usize::from(n).saturating_sub(1);
+    for one in list {
+        sum += one.reach();
     }
     sum
 }
@@ -42,8 +77,8 @@ pub fn reach(list: &[u8]) -> usize {
 /// 128-bit number if it would pass it; an accepted one is at most 2^44.
 pub fn weight(recipe: &Recipe) -> u128 {
     let mut product: u128 = 1;
-    for &n in recipe.rows.iter().chain(&recipe.columns) {
-        product = product.saturating_mul(u128::from(n));
+    for one in recipe.rows.iter().chain(&recipe.columns) {
+        product = product.saturating_mul(u128::from(one.width));
     }
     product
 }
@@ -54,7 +89,8 @@ pub fn check(recipe: &Recipe) -> Result<(), u8> {
     if lists.iter().any(|list| list.len() > MOST_WIDTHS) {
         return Err(1);
     }
-    if lists.iter().any(|list| list.contains(&0)) {
+    let mut boxes = recipe.rows.iter().chain(&recipe.columns);
+    if boxes.any(|one| one.width == 0) {
         return Err(2);
     }
     if lists.iter().any(|list| reach(list) > MOST_REACH) {
@@ -98,11 +134,10 @@ fn multiply(p: &[u128], q: &[u128]) -> Vec<u128> {
 }
 
 /// The coefficients of a list that is accepted as a recipe of its own.
-pub fn coefficients_of(list: &[u8]) -> Vec<u64> {
+pub fn coefficients_of(list: &[BoxFilter]) -> Vec<u64> {
     let mut product: Vec<u128> = vec![1];
-    for &n in list {
-        let box_of_ones = vec![1; usize::from(n)];
-        product = multiply(&product, &box_of_ones);
+    for one in list {
+        product = multiply(&product, &one.coefficients());
     }
     let narrow = |value| u64::try_from(value).expect("an accepted coefficient is at most 2^44");
     product.into_iter().map(narrow).collect()
@@ -110,8 +145,11 @@ pub fn coefficients_of(list: &[u8]) -> Vec<u64> {
 
 /// The coefficients of one list alone: refusals 1 to 4 for the list as a recipe
 /// of its own, then 7 if the output does not hold reach + 1 numbers.
-pub fn coefficients(list: &[u8], out_len: usize) -> Result<Vec<u64>, u8> {
-    check(&Recipe::new(list, &[]))?;
+pub fn coefficients(list: &[BoxFilter], out_len: usize) -> Result<Vec<u64>, u8> {
+    check(&Recipe {
+        rows: list.to_vec(),
+        columns: Vec::new(),
+    })?;
     if out_len != reach(list) + 1 {
         return Err(7);
     }
@@ -125,15 +163,16 @@ pub fn grown_sides(recipe: &Recipe, w: usize, h: usize) -> Result<(usize, usize)
 }
 
 /// The cells that a list needs: none for width 1, one for width 2, n for a
-/// wider n.
-pub fn list_cells(list: &[u8]) -> usize {
+/// wider n, times the spread.
+pub fn list_cells(list: &[BoxFilter]) -> usize {
     let mut cells = 0;
-    for &n in list {
-        cells += match n {
+    for one in list {
+        let side_by_side = match one.width {
             0 | 1 => 0,
             2 => 1,
             wider => usize::from(wider),
         };
+        cells += side_by_side * usize::from(one.spread);
     }
     cells
 }
@@ -147,10 +186,10 @@ pub fn needed_cells(recipe: &Recipe, w: usize) -> Result<usize, u8> {
 }
 
 /// The cost of a list: width 1 costs 0, width 2 costs 1, wider costs 2.
-pub fn list_cost(list: &[u8]) -> u64 {
+pub fn list_cost(list: &[BoxFilter]) -> u64 {
     let mut cost = 0;
-    for &n in list {
-        cost += match n {
+    for one in list {
+        cost += match one.width {
             0 | 1 => 0,
             2 => 1,
             _ => 2,
@@ -178,11 +217,13 @@ pub struct ScaleCard {
     pub column_variance: f64,
 }
 
-/// The exact sum of (n times n - 1), divided by 12 once.
-fn variance(list: &[u8]) -> f64 {
+/// The exact sum of (n times n - 1) times the square of the spread, divided by
+/// 12 once.
+fn variance(list: &[BoxFilter]) -> f64 {
     let mut sum: u32 = 0;
-    for &n in list {
-        sum += u32::from(n) * u32::from(n) - 1;
+    for one in list {
+        let (n, s) = (u32::from(one.width), u32::from(one.spread));
+        sum += (n * n - 1) * s * s;
     }
     f64::from(sum) / 12.0
 }

@@ -42,7 +42,7 @@ pub struct Called {
 #[derive(Clone, Debug)]
 pub struct Stream {
     due: Option<State>,
-    given: Vec<u8>,
+    given: Vec<u64>,
 }
 
 /// The refusals of a start: 1 to 5, then 8.
@@ -140,7 +140,7 @@ impl Stream {
     pub fn row(
         &mut self,
         state: &State,
-        pixels: &[u8],
+        pixels: &[u64],
         out_len: usize,
         cells_len: usize,
     ) -> Called {
@@ -159,7 +159,7 @@ impl Stream {
 
     /// An accepted call: a drain adds no pixels, and the rows below the picture
     /// are black by the definition of the sum.
-    fn accepted(&mut self, state: &State, pixels: &[u8]) -> Called {
+    fn accepted(&mut self, state: &State, pixels: &[u64]) -> Called {
         let mut next = state.clone();
         next.yielded += 1;
         let unbroken = self.due.as_ref() == Some(state);

@@ -1,7 +1,7 @@
 //! Calls that have to be accepted, for tests that look at the answers alone.
 
-use super::recipe_of;
 use super::three::BEFORE;
+use super::{narrow, recipe_of};
 use bore::{Filter, Moments, Quantity, Sample};
 
 /// The answer of the comparing call. The lent byte is no answer before the call
@@ -21,30 +21,32 @@ pub fn moments(filter: &Filter) -> Moments {
 }
 
 /// The greys of a row of sums.
-pub fn round(filter: &Filter, sums: &[u64]) -> Vec<u8> {
+pub fn round(filter: &Filter, sums: &[u64]) -> Vec<u64> {
     let mut out = vec![BEFORE as u8; sums.len()];
     assert_eq!(bore::round(filter, sums, &mut out), 0, "{filter:?}");
-    out
+    out.into_iter().map(u64::from).collect()
 }
 
 /// The same-size blur, with just as many cells as it needs.
-pub fn blur(filter: &Filter, width: usize, height: usize, pixels: &[u8]) -> Vec<u8> {
+pub fn blur(filter: &Filter, width: usize, height: usize, pixels: &[u64]) -> Vec<u64> {
     let needed = reference::same_size_cells(&recipe_of(filter), width, height);
     let mut cells = vec![BEFORE; needed.expect("the recipe and the sides are accepted")];
     let mut out = vec![BEFORE as u8; width * height];
-    let number = bore::blur(filter, width, height, pixels, &mut out, &mut cells);
+    let pixels: Vec<u8> = narrow(pixels);
+    let number = bore::blur(filter, width, height, &pixels, &mut out, &mut cells);
     assert_eq!(number, 0, "{width} by {height}, {filter:?}");
-    out
+    out.into_iter().map(u64::from).collect()
 }
 
 /// The difference, with just as many cells as it needs.
-pub fn difference([a, b]: [&Filter; 2], width: usize, height: usize, pixels: &[u8]) -> Vec<i16> {
+pub fn difference([a, b]: [&Filter; 2], width: usize, height: usize, pixels: &[u64]) -> Vec<i64> {
     let needed = reference::difference_cells(&recipe_of(a), &recipe_of(b), width, height);
     let mut cells = vec![BEFORE; needed.expect("the recipes and the sides are accepted")];
     let mut out = vec![BEFORE as i16; width * height];
-    let number = bore::difference(a, b, width, height, pixels, &mut out, &mut cells);
+    let pixels: Vec<u8> = narrow(pixels);
+    let number = bore::difference(a, b, width, height, &pixels, &mut out, &mut cells);
     assert_eq!(number, 0, "{width} by {height}, {a:?}, {b:?}");
-    out
+    out.into_iter().map(i64::from).collect()
 }
 
 /// The reading of a quantity.
@@ -52,12 +54,13 @@ pub fn sample(
     filter: &Filter,
     width: usize,
     height: usize,
-    pixels: &[u8],
+    pixels: &[u64],
     place: (usize, usize),
     quantity: Quantity,
 ) -> Sample {
     let mut sample = Sample::Sum(BEFORE);
-    let number = bore::sample(filter, width, height, pixels, place, quantity, &mut sample);
+    let pixels: Vec<u8> = narrow(pixels);
+    let number = bore::sample(filter, width, height, &pixels, place, quantity, &mut sample);
     assert_eq!(number, 0, "{place:?}, {width} by {height}, {filter:?}");
     sample
 }

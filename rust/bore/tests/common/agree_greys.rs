@@ -6,7 +6,7 @@
 use super::agree::number;
 use super::lent::Lent;
 use super::pictures::Picture;
-use super::Case;
+use super::{narrow, Case};
 use bore::{Quantity, Sample};
 use reference::random::Random;
 use reference::{Choice, Reading};
@@ -20,7 +20,7 @@ pub fn round(case: &Case, random: &mut Random, sums: &[u64], out_len: usize) -> 
     let lent = Lent::any_bytes(random, out_len);
     let mut left = lent.clone();
     if let Ok(grays) = &expected {
-        left.set(grays);
+        left.set(&narrow(grays));
     }
     for filter in case.both() {
         let mut found = lent.clone();
@@ -78,10 +78,11 @@ pub fn blur(case: &Case, random: &mut Random, picture: &Picture, lengths: [usize
     let (width, height) = (picture.width, picture.height);
     let pixels = &picture.pixels;
     let recipe = case.recipe();
-    let expected = reference::same_size_blur(&recipe, width, height, pixels, out_len, cells_len);
+    let expected = reference::same_size_blur(&recipe, width, height, pixels, out_len, cells_len)
+        .map(|grays| narrow(&grays));
     let needed = reference::same_size_cells(&recipe, width, height);
     let lent = Buffers {
-        pixels: Lent::bytes(random, pixels),
+        pixels: Lent::bytes(random, &narrow(pixels)),
         out: Lent::any_bytes(random, out_len),
         cells: Lent::words(random, cells_len),
     };
@@ -107,10 +108,11 @@ pub fn difference(
     let (width, height) = (picture.width, picture.height);
     let pixels = &picture.pixels;
     let [x, y] = [a, b].map(Case::recipe);
-    let expected = reference::difference(&x, &y, width, height, pixels, out_len, cells_len);
+    let expected = reference::difference(&x, &y, width, height, pixels, out_len, cells_len)
+        .map(|differences| narrow(&differences));
     let needed = reference::difference_cells(&x, &y, width, height);
     let lent = Buffers {
-        pixels: Lent::bytes(random, pixels),
+        pixels: Lent::bytes(random, &narrow(pixels)),
         out: Lent::signed(random, out_len),
         cells: Lent::words(random, cells_len),
     };
@@ -127,7 +129,7 @@ pub fn difference(
 /// The library's form of a reading.
 fn sample_of(reading: Reading) -> Sample {
     match reading {
-        Reading::Grey(gray) => Sample::Gray(gray),
+        Reading::Grey(gray) => Sample::Gray(u8::try_from(gray).expect("a grey is a byte")),
         Reading::Sum(sum) => Sample::Sum(sum),
         Reading::Quotient(mean) => Sample::Mean(mean),
     }
@@ -172,12 +174,12 @@ fn any_sample(random: &mut Random) -> Sample {
 /// The reading of each quantity at this place, by its own call and by choice.
 pub fn sample(case: &Case, random: &mut Random, picture: &Picture, place: (usize, usize)) -> u8 {
     let (w, h) = (picture.width, picture.height);
-    let pixels = Lent::bytes(random, &picture.pixels);
+    let pixels = Lent::bytes(random, &narrow(&picture.pixels));
     let given = pixels.clone();
     let p = given.part();
     let note = format_args!("reading at {place:?} of {w} by {h}, {case:?}");
     let [gray, sum, mean] = [Choice::Grey, Choice::Sum, Choice::Quotient].map(|choice| {
-        let reading = reference::reading(&case.recipe(), w, h, p, place, choice);
+        let reading = reference::reading(&case.recipe(), w, h, &picture.pixels, place, choice);
         reading.map(sample_of)
     });
     for f in case.both() {

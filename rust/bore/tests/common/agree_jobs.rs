@@ -7,14 +7,14 @@ use super::agree::number;
 use super::lent::Lent;
 use super::pictures::Picture;
 use super::values::fields_of_job;
-use super::{any_state, filter, Case};
+use super::{any_state, filter_of, narrow, Case};
 use bore::Job;
 use reference::random::Random;
 
 /// The library's form of a job, zeros past the ends of the lists.
 fn job_of(job: &reference::Job) -> Job {
     Job {
-        filter: filter(&job.recipe.rows, &job.recipe.columns),
+        filter: filter_of(&job.recipe),
         width: job.w,
         height: job.h,
         offset: job.offset,
@@ -57,14 +57,14 @@ fn read_back(bytes: &[u8], case: &Case, random: &mut Random, picture: &Picture) 
     assert_eq!(bore::read_job(bytes, &mut job), 0, "read back, {case:?}");
     let recipe = case.recipe();
     let expected = Job {
-        filter: filter(&recipe.rows, &recipe.columns),
+        filter: filter_of(&recipe),
         width: picture.width,
         height: picture.height,
         offset: bytes.len() - picture.pixels.len(),
     };
     let [found, expected] = [&job, &expected].map(fields_of_job);
     assert_eq!(found, expected, "read back, {case:?}");
-    let pixels = &bytes[job.offset..];
+    let pixels = reference::pixels_of(&bytes[job.offset..]);
     assert!(pixels == picture.pixels, "pixels read back, {case:?}");
 }
 
@@ -95,7 +95,7 @@ pub fn write(case: &Case, random: &mut Random, picture: &Picture, out_len: usize
     let (width, height) = (picture.width, picture.height);
     let recipe = case.recipe();
     let expected = reference::write_job(&recipe, width, height, &picture.pixels, out_len);
-    let pixels = Lent::bytes(random, &picture.pixels);
+    let pixels = Lent::bytes(random, &narrow(&picture.pixels));
     let lent = Lent::any_bytes(random, out_len);
     let mut left = lent.clone();
     if let Ok(bytes) = &expected {

@@ -5,7 +5,7 @@
 use super::agree::number;
 use super::lent::Lent;
 use super::pictures::Picture;
-use super::Case;
+use super::{narrow, Case};
 use reference::random::Random;
 use reference::DirectOutput;
 
@@ -16,7 +16,7 @@ pub fn direct(case: &Case, random: &mut Random, picture: &Picture, lengths: [usi
     let (width, height) = (picture.width, picture.height);
     let pixels = &picture.pixels;
     let expected = reference::direct(&case.recipe(), width, height, pixels, r_len, c_len, out_len);
-    let pixels = Lent::bytes(random, pixels);
+    let pixels = Lent::bytes(random, &narrow(pixels));
     let lent = lengths.map(|length| Lent::words(random, length));
     let mut left = lent.clone();
     if let Ok(DirectOutput { r, c, sums }) = &expected {
@@ -48,7 +48,7 @@ pub fn passes(case: &Case, random: &mut Random, picture: &Picture, lengths: [usi
     let pixels = &picture.pixels;
     let recipe = case.recipe();
     let expected = reference::pass_by_pass(&recipe, width, height, pixels, out_len, cells_len);
-    let pixels = Lent::bytes(random, pixels);
+    let pixels = Lent::bytes(random, &narrow(pixels));
     let lent = lengths.map(|length| Lent::words(random, length));
     let mut left = lent.clone();
     if let Ok(sums) = &expected {

@@ -7,7 +7,7 @@ use super::agree::number;
 use super::cells::after_call;
 use super::lent::Lent;
 use super::values::fields_of_state;
-use super::{any_state, filter, recipe_of, Case};
+use super::{any_state, filter, narrow, recipe_of, Case};
 use bore::State;
 use reference::random::Random;
 use reference::{Called, Stream};
@@ -17,14 +17,14 @@ use std::fmt::Arguments;
 /// how many of the work cells are lent.
 #[derive(Clone, Debug)]
 pub struct Call {
-    pub pixels: Option<Vec<u8>>,
+    pub pixels: Option<Vec<u64>>,
     pub out: usize,
     pub cells: usize,
 }
 
 impl Call {
     /// The pixels of the row; a drain has none.
-    fn pixels(&self) -> &[u8] {
+    fn pixels(&self) -> &[u64] {
         self.pixels.as_deref().unwrap_or(&[])
     }
 }
@@ -108,7 +108,7 @@ impl Buffers {
     /// Random values but for the pixels and the cells.
     fn lent(random: &mut Random, call: &Call, cells: &Lent<u64>) -> Buffers {
         Buffers {
-            pixels: Lent::bytes(random, call.pixels()),
+            pixels: Lent::bytes(random, &narrow(call.pixels())),
             out: Lent::words(random, call.out),
             cells: cells.clone(),
             count: Lent::words(random, 1),

@@ -2,7 +2,7 @@
 
 use super::job_parts::Parts;
 use super::pictures::{any_picture, any_sides, picture_filter};
-use super::{any_filter, recipe_of};
+use super::{any_filter, narrow, recipe_of};
 use reference::random::Random;
 
 /// Changes one part of a job.
@@ -51,7 +51,7 @@ fn job_of_parts(random: &mut Random) -> Vec<u8> {
         1 => bytes.truncate(random.between(0, parts.offset())),
         2 => {
             let more = random.between(1, 9);
-            bytes.extend(random.pixels(more));
+            bytes.extend(narrow::<_, u8>(&random.pixels(more)));
         }
         _ => (),
     }

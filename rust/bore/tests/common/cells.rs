@@ -57,18 +57,19 @@ fn column_stage(n: usize, e: usize, row: &[u64], given: &[u64]) -> Stage {
 
 /// The output row and all cells after an accepted call on this state with the
 /// pixels of a row, none for a drain.
-pub fn after_call(state: &State, pixels: &[u8], given: &[u64]) -> (Vec<u64>, Vec<u64>) {
-    let mut row: Vec<u64> = pixels.iter().map(|&pixel| u64::from(pixel)).collect();
+pub fn after_call(state: &State, pixels: &[u64], given: &[u64]) -> (Vec<u64>, Vec<u64>) {
+    let mut row = pixels.to_vec();
     row.resize(state.w + reach(&state.recipe.rows), 0);
     // The cells of the stages so far; those of the next one follow.
     let mut left = vec![];
-    for &n in &state.recipe.rows {
-        let (out, cells) = row_stage(n.into(), &row);
+    for one in &state.recipe.rows {
+        let (out, cells) = row_stage(one.width.into(), &row);
         row = out;
         left.extend(cells);
     }
-    for &n in &state.recipe.columns {
-        let (out, cells) = column_stage(n.into(), state.yielded, &row, &given[left.len()..]);
+    for one in &state.recipe.columns {
+        let n = one.width.into();
+        let (out, cells) = column_stage(n, state.yielded, &row, &given[left.len()..]);
         row = out;
         left.extend(cells);
     }

@@ -3,20 +3,19 @@
 use super::pictures::picture_filter;
 use super::recipe_of;
 use reference::random::Random;
-use reference::{reach, Recipe};
+use reference::{reach, BoxFilter, Recipe};
 
-/// Two recipes that share these widths by chance: the product of their weights
+/// Two recipes that share these boxes by chance: the product of their weights
 /// is that of the widths.
-fn shared(random: &mut Random, widths: &[u8]) -> [Recipe; 2] {
+fn shared(random: &mut Random, list: &[BoxFilter]) -> [Recipe; 2] {
     let mut lists = [const { vec![] }; 4];
-    for &n in widths {
-        lists[random.between(0, 3)].push(n);
+    for &one in list {
+        lists[random.between(0, 3)].push(one);
     }
-    let [a_rows, a_columns, b_rows, b_columns] = lists;
-    [
-        Recipe::new(&a_rows, &a_columns),
-        Recipe::new(&b_rows, &b_columns),
-    ]
+    let [rows, columns, b_rows, b_columns] = lists;
+    let a = Recipe { rows, columns };
+    let (rows, columns) = (b_rows, b_columns);
+    [a, Recipe { rows, columns }]
 }
 
 /// Two recipes: small ones, a product of weights at the limit, just below or
@@ -42,7 +41,7 @@ fn drawn_pair(random: &mut Random) -> [Recipe; 2] {
 }
 
 pub fn parity_agrees([a, b]: &[Recipe; 2]) -> bool {
-    let agrees = |x: &[u8], y: &[u8]| reach(x) % 2 == reach(y) % 2;
+    let agrees = |x: &[BoxFilter], y: &[BoxFilter]| reach(x) % 2 == reach(y) % 2;
     agrees(&a.rows, &b.rows) && agrees(&a.columns, &b.columns)
 }
 

@@ -1,6 +1,6 @@
 //! A job file in parts, so that a test can set each of them by itself.
 
-use super::list_of;
+use super::{list_of, narrow, widths_of};
 use bore::Filter;
 
 /// The paper's example, which prints `3 1 4` and `4 8 4`.
@@ -17,12 +17,12 @@ pub struct Parts {
     pub counts: [u8; 2],
     pub lists: [Vec<u8>; 2],
     pub sides: [u16; 2],
-    pub pixels: Vec<u8>,
+    pub pixels: Vec<u64>,
 }
 
 impl Parts {
     /// A job with the right mark, version and counts, and these pixels.
-    pub fn new(rows: &[u8], columns: &[u8], sides: [u16; 2], pixels: Vec<u8>) -> Parts {
+    pub fn new(rows: &[u8], columns: &[u8], sides: [u16; 2], pixels: Vec<u64>) -> Parts {
         let lists = [rows.to_vec(), columns.to_vec()];
         let count = |list: &Vec<u8>| u8::try_from(list.len()).expect("a count is a byte");
         Parts {
@@ -36,16 +36,16 @@ impl Parts {
     }
 
     /// Such a job with as many pixels of one grey as the sides say.
-    pub fn grey(rows: &[u8], columns: &[u8], sides: [u16; 2], grey: u8) -> Parts {
+    pub fn grey(rows: &[u8], columns: &[u8], sides: [u16; 2], grey: u64) -> Parts {
         let size = sides.map(usize::from).iter().product();
         Parts::new(rows, columns, sides, vec![grey; size])
     }
 
     /// Such a job with the lists of a filter; past its 48 widths a longer list
     /// has ones.
-    pub fn of_filter(filter: &Filter, sides: [u16; 2], pixels: Vec<u8>) -> Parts {
+    pub fn of_filter(filter: &Filter, sides: [u16; 2], pixels: Vec<u64>) -> Parts {
         let [rows, columns] = [&filter.rows, &filter.columns].map(|cascade| {
-            let mut list = list_of(cascade);
+            let mut list = widths_of(&list_of(cascade));
             if let Some(rest) = list.get_mut(48..) {
                 rest.fill(1);
             }
@@ -69,7 +69,7 @@ impl Parts {
         for side in self.sides {
             bytes.extend(side.to_le_bytes());
         }
-        bytes.extend(&self.pixels);
+        bytes.extend(narrow::<_, u8>(&self.pixels));
         bytes
     }
 }

@@ -1,5 +1,5 @@
-//! What the comparison tests share: the change from the library's form of a
-//! filter to the reference's, many random filters near all limits, in
+//! What the comparison tests share: the change between the library's form of
+//! filters and pixels and the reference's, many random filters near all limits, in
 //! `pictures` random pictures, in `sums` rows of sums, in `pairs`, `near_misses`
 //! and `difference_pairs` pairs of recipes, in `causes` refusals on purpose, in
 //! `guarded` memory between guard pages, and the comparison of each call with the
@@ -42,7 +42,7 @@ pub mod values;
 
 use bore::{Cascade, Filter, State};
 use reference::random::Random;
-use reference::Recipe;
+use reference::{boxes, BoxFilter, Recipe};
 
 /// The random cases of each test when BORE_CASES is not set.
 const CASES: u64 = 100_000;
@@ -53,11 +53,11 @@ pub fn set_number(name: &str) -> Option<u64> {
     Some(text.parse().expect("the variable holds a whole number"))
 }
 
-/// The list that a cascade stands for. A list longer than 48 has zeros past
-/// its 48th entry: the reference refuses it whatever they are.
-pub fn list_of(cascade: &Cascade) -> Vec<u8> {
-    let mut list = cascade.widths.to_vec();
-    list.resize(usize::from(cascade.count), 0);
+/// The list that a cascade stands for. A list longer than 48 has widths of 0
+/// past its 48th: the reference refuses it whatever they are.
+pub fn list_of(cascade: &Cascade) -> Vec<BoxFilter> {
+    let mut list = boxes(&cascade.widths);
+    list.resize(usize::from(cascade.count), BoxFilter::of_width(0));
     list
 }
 
@@ -69,9 +69,19 @@ pub fn recipe_of(filter: &Filter) -> Recipe {
     }
 }
 
+/// The widths of a list.
+pub fn widths_of(list: &[BoxFilter]) -> Vec<u8> {
+    list.iter().map(|one| one.width).collect()
+}
+
+/// Whether a list has a width of this kind.
+pub fn some_width(list: &[BoxFilter], kind: impl Fn(usize) -> bool) -> bool {
+    list.iter().any(|one| kind(one.width.into()))
+}
+
 /// A list in the library's form, zeros past its end.
-pub fn cascade(list: &[u8]) -> Cascade {
-    let mut widths = list.to_vec();
+pub fn cascade_of(list: &[BoxFilter]) -> Cascade {
+    let mut widths = widths_of(list);
     widths.resize(48, 0);
     Cascade {
         count: u8::try_from(list.len()).expect("a count is a byte"),
@@ -79,15 +89,27 @@ pub fn cascade(list: &[u8]) -> Cascade {
     }
 }
 
-/// Two lists in the library's form, zeros past their ends.
-pub fn filter(rows: &[u8], columns: &[u8]) -> Filter {
+/// The library's form of a recipe, zeros past the ends of its lists.
+pub fn filter_of(recipe: &Recipe) -> Filter {
     Filter {
-        rows: cascade(rows),
-        columns: cascade(columns),
+        rows: cascade_of(&recipe.rows),
+        columns: cascade_of(&recipe.columns),
     }
 }
 
-/// A list on one axis, with no widths on the other.
+/// Numbers in the library's form: pixels and greys as bytes, differences as
+/// signed 16 bits.
+pub fn narrow<N: Copy, T: TryFrom<N>>(numbers: &[N]) -> Vec<T> {
+    let one = |&number: &N| T::try_from(number).ok().expect("the number fits");
+    numbers.iter().map(one).collect()
+}
+
+/// The filter of two lists of widths.
+pub fn filter(rows: &[u8], columns: &[u8]) -> Filter {
+    filter_of(&Recipe::new(rows, columns))
+}
+
+/// The filter of a list of widths on one axis, with none on the other.
 pub fn on_axis(list: &[u8], on_rows: bool) -> Filter {
     match on_rows {
         true => filter(list, &[]),
@@ -216,12 +238,9 @@ pub fn any_filter(random: &mut Random) -> Filter {
         0..=2 => random.valid_recipe(255),
         3..=5 => random.damaged_recipe(),
         6..=7 => heavy_recipe(random),
-        _ => Recipe {
-            rows: any_list(random),
-            columns: any_list(random),
-        },
+        _ => Recipe::new(&any_list(random), &any_list(random)),
     };
-    let mut filter = refilled(random, &filter(&recipe.rows, &recipe.columns));
+    let mut filter = refilled(random, &filter_of(&recipe));
     if random.between(0, 3) == 0 {
         damage(random, &mut filter);
     }
@@ -340,10 +359,10 @@ fn heavy_recipe(random: &mut Random) -> Recipe {
     Recipe::new(&rows[..cut], &rows[cut..])
 }
 
-pub fn shuffled(random: &mut Random, list: &[u8]) -> Vec<u8> {
+pub fn shuffled<T: Copy>(random: &mut Random, list: &[T]) -> Vec<T> {
     let mut out = Vec::new();
-    for &n in list {
-        out.insert(random.between(0, out.len()), n);
+    for &one in list {
+        out.insert(random.between(0, out.len()), one);
     }
     out
 }

@@ -1,9 +1,9 @@
 //! Pairs of recipes for the comparing call: an accepted recipe and a relative
 //! of it that is equal to it or differs in one place.
 
-use super::{filter, shuffled, Case};
+use super::{filter_of, shuffled, Case};
 use reference::random::Random;
-use reference::Recipe;
+use reference::{BoxFilter, Recipe};
 
 /// Makes a relative of an accepted recipe, and says whether the two are equal.
 /// The relative may be refused.
@@ -29,22 +29,21 @@ pub fn accepted_recipe(random: &mut Random) -> Recipe {
 
 /// The case of a recipe.
 pub fn case_of(random: &mut Random, seed: u64, recipe: &Recipe) -> Case {
-    let filter = filter(&recipe.rows, &recipe.columns);
-    Case::new(random, seed, filter)
+    Case::new(random, seed, filter_of(recipe))
 }
 
 /// A list without its widths of 1.
-pub fn struck(list: &[u8]) -> Vec<u8> {
-    list.iter().copied().filter(|&n| n != 1).collect()
+pub fn struck(list: &[BoxFilter]) -> Vec<BoxFilter> {
+    list.iter().copied().filter(|one| one.width != 1).collect()
 }
 
 /// A list with its widths of 1 struck out and others put in at random places.
-fn with_other_ones(random: &mut Random, list: &[u8]) -> Vec<u8> {
+fn with_other_ones(random: &mut Random, list: &[BoxFilter]) -> Vec<BoxFilter> {
     let mut list = struck(list);
     let room = 48 - list.len();
     let any = random.between(0, room);
     for _ in 0..random.one_of(&[0, any, any, room]) {
-        list.insert(random.between(0, list.len()), 1);
+        list.insert(random.between(0, list.len()), BoxFilter::of_width(1));
     }
     list
 }
@@ -82,13 +81,16 @@ pub fn exchanged(_: &mut Random, recipe: &Recipe) -> (Recipe, bool) {
     let [mut rows, mut columns] = [&recipe.rows, &recipe.columns].map(|list| struck(list));
     rows.sort();
     columns.sort();
-    let other = Recipe::new(&recipe.columns, &recipe.rows);
+    let other = Recipe {
+        rows: recipe.columns.clone(),
+        columns: recipe.rows.clone(),
+    };
     (other, rows == columns)
 }
 
 /// The lists of a recipe, and one of the axes, 0 or 1, by chance. If only one
 /// list has widths, it is that one.
-fn lists_and_axis(random: &mut Random, recipe: &Recipe) -> ([Vec<u8>; 2], usize) {
+fn lists_and_axis(random: &mut Random, recipe: &Recipe) -> ([Vec<BoxFilter>; 2], usize) {
     let lists = [recipe.rows.clone(), recipe.columns.clone()];
     let axis = match (lists[0].is_empty(), lists[1].is_empty()) {
         (true, false) => 1,
@@ -98,7 +100,7 @@ fn lists_and_axis(random: &mut Random, recipe: &Recipe) -> ([Vec<u8>; 2], usize)
     (lists, axis)
 }
 
-fn recipe_of_lists([rows, columns]: [Vec<u8>; 2]) -> Recipe {
+fn recipe_of_lists([rows, columns]: [Vec<BoxFilter>; 2]) -> Recipe {
     Recipe { rows, columns }
 }
 
@@ -108,7 +110,7 @@ pub fn added(random: &mut Random, recipe: &Recipe) -> (Recipe, bool) {
     let list = &mut lists[random.between(0, 1)];
     let any = random.between(1, 255) as u8;
     let n = random.one_of(&[1, 2, 3, any]);
-    list.insert(random.between(0, list.len()), n);
+    list.insert(random.between(0, list.len()), BoxFilter::of_width(n));
     (recipe_of_lists(lists), n == 1)
 }
 
@@ -119,8 +121,8 @@ pub fn dropped(random: &mut Random, recipe: &Recipe) -> (Recipe, bool) {
         return (recipe.clone(), true);
     }
     let at = random.between(0, lists[axis].len() - 1);
-    let n = lists[axis].remove(at);
-    (recipe_of_lists(lists), n == 1)
+    let one = lists[axis].remove(at);
+    (recipe_of_lists(lists), one.width == 1)
 }
 
 /// One width replaced, at times by one that the list has already.
@@ -131,11 +133,11 @@ pub fn changed(random: &mut Random, recipe: &Recipe) -> (Recipe, bool) {
         return added(random, recipe);
     }
     let at = random.between(0, list.len() - 1);
-    let n = list[at];
-    let present = random.one_of(list);
+    let n = list[at].width;
+    let present = random.one_of(list).width;
     let any = random.between(1, 255) as u8;
-    list[at] = random.one_of(&[n - 1, n.saturating_add(1), present, any]);
-    let equal = list[at] == n;
+    list[at].width = random.one_of(&[n - 1, n.saturating_add(1), present, any]);
+    let equal = list[at].width == n;
     (recipe_of_lists(lists), equal)
 }
 
@@ -146,9 +148,9 @@ pub fn moved(random: &mut Random, recipe: &Recipe) -> (Recipe, bool) {
         return (recipe.clone(), true);
     }
     let at = random.between(0, lists[axis].len() - 1);
-    let n = lists[axis].remove(at);
-    lists[1 - axis].push(n);
-    (recipe_of_lists(lists), n == 1)
+    let one = lists[axis].remove(at);
+    lists[1 - axis].push(one);
+    (recipe_of_lists(lists), one.width == 1)
 }
 
 /// Two widths of one list replaced by one that has their weight, or their
@@ -159,13 +161,12 @@ pub fn joined(random: &mut Random, recipe: &Recipe) -> (Recipe, bool) {
     let [.., n, m] = lists[axis][..] else {
         return (recipe.clone(), true);
     };
-    let (wide_n, wide_m) = (u16::from(n), u16::from(m));
-    let one = random.one_of(&[wide_n * wide_m, wide_n + wide_m - 1]);
-    let Ok(one) = u8::try_from(one) else {
+    let [n, m] = [n, m].map(|one| u16::from(one.width));
+    let Ok(one) = u8::try_from(random.one_of(&[n * m, n + m - 1])) else {
         return (recipe.clone(), true);
     };
     let length = lists[axis].len() - 2;
     lists[axis].truncate(length);
-    lists[axis].push(one);
+    lists[axis].push(BoxFilter::of_width(one));
     (recipe_of_lists(lists), n == 1 || m == 1)
 }

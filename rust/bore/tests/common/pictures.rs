@@ -3,10 +3,10 @@
 //! The reference forms every sum as it is defined, so its work grows fast with
 //! the reaches: the sides are made smaller where they would make it too long.
 
-use super::{any_filter, filter, recipe_of, refilled, Case};
+use super::{any_filter, filter_of, recipe_of, refilled, Case};
 use bore::Filter;
 use reference::random::Random;
-use reference::Recipe;
+use reference::{BoxFilter, Recipe, LARGEST_GREY};
 
 /// A picture for the library and the reference. Its slice of pixels may have a
 /// wrong length.
@@ -14,7 +14,7 @@ use reference::Recipe;
 pub struct Picture {
     pub width: usize,
     pub height: usize,
-    pub pixels: Vec<u8>,
+    pub pixels: Vec<u64>,
 }
 
 impl Picture {
@@ -69,7 +69,7 @@ fn drawn_filter(random: &mut Random) -> Filter {
         25..=26 => random.recipe_of_length(48),
         _ => return any_filter(random),
     };
-    refilled(random, &filter(&recipe.rows, &recipe.columns))
+    refilled(random, &filter_of(&recipe))
 }
 
 /// Such a filter; of those with long reaches on both axes most lose an axis.
@@ -177,15 +177,16 @@ pub fn pictured(seed: u64) -> (Case, Random, Picture) {
 
 /// Makes one in three pictures black, white, black but for one pixel, or all of
 /// one grey.
-pub fn repaint(random: &mut Random, pixels: &mut [u8]) {
-    let any = random.word() as u8;
+pub fn repaint(random: &mut Random, pixels: &mut [u64]) {
+    let any = random.grey();
     match random.between(0, 11) {
         0 => pixels.fill(0),
-        1 => pixels.fill(255),
+        1 => pixels.fill(LARGEST_GREY),
         2 => {
             pixels.fill(0);
             if !pixels.is_empty() {
-                pixels[random.between(0, pixels.len() - 1)] = random.one_of(&[1, 255, any]);
+                pixels[random.between(0, pixels.len() - 1)] =
+                    random.one_of(&[1, LARGEST_GREY, any]);
             }
         }
         3 => pixels.fill(any),
@@ -217,7 +218,7 @@ pub fn larger_picture(random: &mut Random) -> Picture {
 
 /// A place on a side: on its ends, where the window just goes over them, or
 /// anywhere.
-fn place_on_side(random: &mut Random, side: usize, list: &[u8]) -> usize {
+fn place_on_side(random: &mut Random, side: usize, list: &[BoxFilter]) -> usize {
     let last = side - 1;
     let half = reference::reach(list).div_ceil(2);
     let near = random

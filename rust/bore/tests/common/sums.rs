@@ -1,7 +1,7 @@
 //! Random rows of sums for the rounding call.
 
 use reference::random::Random;
-use reference::Recipe;
+use reference::{Recipe, LARGEST_GREY};
 
 /// The weight where the recipe is accepted, else 1.
 pub fn weight(recipe: &Recipe) -> u64 {
@@ -10,8 +10,8 @@ pub fn weight(recipe: &Recipe) -> u64 {
 
 /// A sum that is accepted: next to a half, at a whole grey, or any other.
 fn any_sum(random: &mut Random, weight: u64) -> u64 {
-    let most = 255 * weight;
-    let whole = random.between(0, 255) as u64 * weight;
+    let most = LARGEST_GREY * weight;
+    let whole = random.grey() * weight;
     let half = whole + weight / 2;
     let any = random.word() % (most + 1);
     let sum = random.one_of(&[
@@ -29,7 +29,7 @@ fn any_sum(random: &mut Random, weight: u64) -> u64 {
 
 /// A sum that is refused 11.
 fn bright_sum(random: &mut Random, weight: u64) -> u64 {
-    let most = 255 * weight;
+    let most = LARGEST_GREY * weight;
     let any = random.word() % (u64::MAX - most);
     random.one_of(&[most + 1, most + 1 + any, 1 << 63, u64::MAX])
 }

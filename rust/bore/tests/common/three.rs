@@ -1,7 +1,7 @@
 //! The three methods with buffers of just the right lengths, for tests that
 //! look at the sums of a picture alone.
 
-use super::{any_state, recipe_of};
+use super::{any_state, narrow, recipe_of};
 use bore::Filter;
 use reference::random::Random;
 
@@ -64,14 +64,15 @@ pub fn stream(filter: &Filter, width: usize, height: usize, pixels: &[u8]) -> Su
 
 /// The sums of a picture, or the number, by each method: direct, pass by pass,
 /// one pass.
-pub fn each_method(filter: &Filter, width: usize, height: usize, pixels: &[u8]) -> [Sums; 3] {
+pub fn each_method(filter: &Filter, width: usize, height: usize, pixels: &[u64]) -> [Sums; 3] {
+    let pixels: Vec<u8> = narrow(pixels);
     let methods = [direct, passes, stream];
-    methods.map(|method| method(filter, width, height, pixels))
+    methods.map(|method| method(filter, width, height, &pixels))
 }
 
 /// The sums of a picture, or the number, which has to be the same by all three
 /// methods.
-pub fn three_methods(filter: &Filter, width: usize, height: usize, pixels: &[u8]) -> Sums {
+pub fn three_methods(filter: &Filter, width: usize, height: usize, pixels: &[u64]) -> Sums {
     let [found, by_passes, by_stream] = each_method(filter, width, height, pixels);
     let note = format_args!("{width} by {height}, {filter:?}");
     assert!(by_passes == found, "direct, pass by pass: {note}");

@@ -7,13 +7,13 @@
 use crate::common::agree::number;
 use crate::common::near_misses::near_misses;
 use crate::common::pairs::{accepted_recipe, disguised, MAKERS};
-use crate::common::{damage, filter, list_of, recipe_of, refilled};
+use crate::common::{damage, filter_of, list_of, recipe_of, refilled};
 use crate::draw::{any_block, any_side, length};
 use crate::trial::Trial;
 use crate::SAME;
 use bore::{raw, Filter};
 use reference::random::Random;
-use reference::Recipe;
+use reference::{boxes, Recipe};
 use std::sync::LazyLock;
 
 pub fn check(trial: &mut Trial) -> u8 {
@@ -109,17 +109,21 @@ fn relatives(random: &mut Random) -> [Recipe; 2] {
 fn near_miss(random: &mut Random) -> [Recipe; 2] {
     let [x, y] = &NEAR_MISSES[random.between(0, NEAR_MISSES.len() - 1)];
     let other = random.valid_recipe(12).rows;
-    match random.coin() {
-        true => [Recipe::new(x, &other), Recipe::new(y, &other)],
-        false => [Recipe::new(&other, x), Recipe::new(&other, y)],
-    }
+    let on_rows = random.coin();
+    [x, y].map(|list| {
+        let (rows, columns) = match on_rows {
+            true => (boxes(list), other.clone()),
+            false => (other.clone(), boxes(list)),
+        };
+        Recipe { rows, columns }
+    })
 }
 
 /// Two filters, mostly related.
 fn any_two(random: &mut Random) -> [Filter; 2] {
     let mut pair = match random.between(0, 7) {
-        0..=3 => relatives(random).map(|recipe| filter(&recipe.rows, &recipe.columns)),
-        4 => near_miss(random).map(|recipe| filter(&recipe.rows, &recipe.columns)),
+        0..=3 => relatives(random).map(|recipe| filter_of(&recipe)),
+        4 => near_miss(random).map(|recipe| filter_of(&recipe)),
         5 => [(); 2].map(|_| any_block(random)),
         _ => [any_block(random); 2],
     };

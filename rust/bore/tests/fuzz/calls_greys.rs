@@ -6,7 +6,7 @@ use crate::common::difference_pairs::any_pair;
 use crate::common::pairs::disguised;
 use crate::common::pictures::{any_place, products, Picture};
 use crate::common::sums::{any_sums, weight};
-use crate::common::{any_filter, filter, recipe_of, refilled};
+use crate::common::{any_filter, filter_of, narrow, recipe_of, refilled};
 use crate::draw;
 use crate::trial::Trial;
 use bore::{raw, Filter};
@@ -19,10 +19,10 @@ pub fn round(trial: &mut Trial) -> u8 {
     let sums = any_sums(&mut trial.random, weight(&recipe));
     let out_len = draw::length(&mut trial.random, sums.len());
     let expected = reference::round_row(&recipe, &sums, out_len);
-    let left = expected.as_deref().unwrap_or(&[]);
+    let left: Vec<u8> = narrow(expected.as_deref().unwrap_or(&[]));
     let block = trial.give(&[filter]);
     let row = trial.give(&sums);
-    let out = trial.lend_any(out_len, left);
+    let out = trial.lend_any(out_len, &left);
     let found = unsafe { raw::bore_round(&*block, row, sums.len(), out, out_len) };
     let note = format_args!("{filter:?}, {sums:?}, length {out_len}");
     trial.agree(found, number(&expected), note)
@@ -36,10 +36,10 @@ pub fn blur(trial: &mut Trial) -> u8 {
     let cells_len = draw::cells(&mut trial.random, needed);
     let pixels = &picture.pixels;
     let expected = reference::same_size_blur(&recipe, width, height, pixels, out_len, cells_len);
-    let left = expected.as_deref().unwrap_or(&[]);
+    let left: Vec<u8> = narrow(expected.as_deref().unwrap_or(&[]));
     let block = trial.give(&[filter]);
-    let p = trial.give(pixels);
-    let out = trial.lend_any(out_len, left);
+    let p = trial.give(&narrow(pixels));
+    let out = trial.lend_any(out_len, &left);
     let cells = trial.lend_free(cells_len, expected.as_ref().map_or(0, |_| needed));
     let p_len = pixels.len();
     let found = unsafe {
@@ -59,7 +59,7 @@ fn drawn_pair(random: &mut Random, most: usize) -> [Filter; 2] {
         1..=2 => {
             let recipe = recipe_of(&draw::light_filter(random, most));
             let other = disguised(random, &recipe);
-            return [recipe, other].map(|recipe| filter(&recipe.rows, &recipe.columns));
+            return [recipe, other].map(|recipe| filter_of(&recipe));
         }
         _ => (),
     }
@@ -68,7 +68,7 @@ fn drawn_pair(random: &mut Random, most: usize) -> [Filter; 2] {
     while pair.iter().any(long) && random.between(0, 1023) > 0 {
         pair = any_pair(random);
     }
-    pair.map(|recipe| filter(&recipe.rows, &recipe.columns))
+    pair.map(|recipe| filter_of(&recipe))
 }
 
 /// The recipe for which the reference has more to do.
@@ -92,10 +92,10 @@ pub fn difference(trial: &mut Trial) -> u8 {
     let cells_len = draw::cells(random, needed);
     let pixels = &picture.pixels;
     let expected = reference::difference(a, b, width, height, pixels, out_len, cells_len);
-    let left = expected.as_deref().unwrap_or(&[]);
+    let left: Vec<i16> = narrow(expected.as_deref().unwrap_or(&[]));
     let blocks = filters.map(|filter| trial.give(&[filter]));
-    let p = trial.give(pixels);
-    let out = trial.lend_any(out_len, left);
+    let p = trial.give(&narrow(pixels));
+    let out = trial.lend_any(out_len, &left);
     let cells = trial.lend_free(cells_len, expected.as_ref().map_or(0, |_| needed));
     let (a, b, p_len) = (blocks[0], blocks[1], pixels.len());
     let found = unsafe {
@@ -113,26 +113,26 @@ fn sample(trial: &mut Trial, choice: Choice) -> u8 {
     let Picture { width, height, .. } = picture;
     let place = any_place(&mut trial.random, &picture);
     let expected = reference::reading(&recipe, width, height, &picture.pixels, place, choice);
-    let (grey, word) = match expected {
-        Ok(Reading::Grey(grey)) => (Some(grey), None),
-        Ok(Reading::Sum(sum)) => (None, Some(sum)),
-        Ok(Reading::Quotient(quotient)) => (None, Some(quotient.to_bits())),
-        Err(_) => (None, None),
+    let left = match expected {
+        Ok(Reading::Grey(grey)) => Some(grey),
+        Ok(Reading::Sum(sum)) => Some(sum),
+        Ok(Reading::Quotient(quotient)) => Some(quotient.to_bits()),
+        Err(_) => None,
     };
     let block = trial.give(&[filter]);
-    let (p, p_len) = (trial.give(&picture.pixels), picture.pixels.len());
+    let (p, p_len) = (trial.give(&narrow(&picture.pixels)), picture.pixels.len());
     let (x, y) = place;
     let found = match choice {
         Choice::Grey => {
-            let out = trial.lend_any(1, grey.as_slice());
+            let out = trial.lend_any(1, &narrow(left.as_slice()));
             unsafe { raw::bore_sample_gray(&*block, width, height, p, p_len, x, y, &mut *out) }
         }
         Choice::Sum => {
-            let out = trial.lend_any(1, word.as_slice());
+            let out = trial.lend_any(1, left.as_slice());
             unsafe { raw::bore_sample_sum(&*block, width, height, p, p_len, x, y, &mut *out) }
         }
         Choice::Quotient => {
-            let out: *mut f64 = trial.lend_any(1, word.as_slice()).cast();
+            let out: *mut f64 = trial.lend_any(1, left.as_slice()).cast();
             unsafe { raw::bore_sample_mean(&*block, width, height, p, p_len, x, y, &mut *out) }
         }
     };

@@ -4,7 +4,7 @@
 use crate::common::agree::number;
 use crate::common::any_jobs::any_bytes;
 use crate::common::pictures::Picture;
-use crate::common::{any_state, filter, recipe_of};
+use crate::common::{any_state, filter_of, narrow, recipe_of};
 use crate::draw;
 use crate::trial::Trial;
 use bore::raw;
@@ -31,7 +31,7 @@ pub fn read_job(trial: &mut Trial) -> u8 {
     let bytes = job(&mut trial.random);
     let expected = reference::read_job(&bytes);
     let read = expected.clone().unwrap_or_default();
-    let left = filter(&read.recipe.rows, &read.recipe.columns);
+    let left = filter_of(&read.recipe);
     let given = any_state(&mut trial.random);
     let words = [given.width, given.height, given.emitted];
     let job = trial.give(&bytes);
@@ -63,7 +63,7 @@ pub fn write_job(trial: &mut Trial) -> u8 {
     let expected = reference::write_job(&recipe, width, height, &picture.pixels, out_len);
     let left = expected.as_deref().unwrap_or(&[]);
     let block = trial.give(&[filter]);
-    let (p, p_len) = (trial.give(&picture.pixels), picture.pixels.len());
+    let (p, p_len) = (trial.give(&narrow(&picture.pixels)), picture.pixels.len());
     let out = trial.lend_any(out_len, left);
     let found = unsafe { raw::bore_write_job(&*block, width, height, p, p_len, out, out_len) };
     let note = format_args!("{filter:?}, {picture:?}, length {out_len}");

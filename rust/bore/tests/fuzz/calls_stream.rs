@@ -4,7 +4,9 @@
 use crate::common::agree::number;
 use crate::common::agree_stream::{state_of, without_sums};
 use crate::common::cells::after_call;
-use crate::common::{any_state, damage_state, filter, list_of, recipe_of, refilled};
+use crate::common::{
+    any_state, damage_state, filter, filter_of, list_of, narrow, recipe_of, refilled,
+};
 use crate::draw;
 use crate::trial::Trial;
 use bore::{raw, State};
@@ -129,7 +131,7 @@ fn after_calls(random: &mut Random, row: bool) -> Before {
         started.state = called.state;
     }
     let state = State {
-        filter: refilled(random, &filter(&recipe.rows, &recipe.columns)),
+        filter: refilled(random, &filter_of(&recipe)),
         width,
         height,
         emitted: started.state.yielded,
@@ -150,7 +152,7 @@ fn before(random: &mut Random, row: bool) -> Before {
 
 /// The output and the cells that a call leaves where they change. Where the
 /// reference has sums, the model has to have the same.
-fn left_by(before: &Before, pixels: &[u8], called: &Called) -> (Vec<u64>, Vec<u64>) {
+fn left_by(before: &Before, pixels: &[u64], called: &Called) -> (Vec<u64>, Vec<u64>) {
     if called.result.is_err() {
         return (vec![], vec![]);
     }
@@ -162,7 +164,7 @@ fn left_by(before: &Before, pixels: &[u8], called: &Called) -> (Vec<u64>, Vec<u6
 }
 
 /// The pixels of a row, mostly as many as the state says.
-fn row_pixels(random: &mut Random, state: &State) -> Vec<u8> {
+fn row_pixels(random: &mut Random, state: &State) -> Vec<u64> {
     let length = draw::length(random, state.width);
     random.pixels(length)
 }
@@ -194,7 +196,7 @@ fn step(trial: &mut Trial, row: bool) -> u8 {
     let words = [state.width, state.height, called.state.yielded];
     let block = trial.give(&[state.filter]);
     let words = trial.lend(&[words_of(&state)], &[words]);
-    let p = row.then(|| trial.give(&pixels));
+    let p = row.then(|| trial.give(&narrow(&pixels)));
     let out = trial.lend_any(out_len, &out);
     let cells = trial.lend(&before.cells, &cells);
     let count = unsafe { &mut *trial.lend_any(1, &[called.count]) };

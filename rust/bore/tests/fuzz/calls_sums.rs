@@ -2,6 +2,7 @@
 //! The unsafe blocks rest on what `calls_filter` says.
 
 use crate::common::agree::number;
+use crate::common::narrow;
 use crate::common::pictures::Picture;
 use crate::draw;
 use crate::trial::Trial;
@@ -25,7 +26,7 @@ pub fn direct(trial: &mut Trial) -> u8 {
         Err(_) => [&[][..]; 3],
     };
     let block = trial.give(&[filter]);
-    let p = trial.give(pixels);
+    let p = trial.give(&narrow(pixels));
     let r = trial.lend_any(r_len, left[0]);
     let c = trial.lend_any(c_len, left[1]);
     let out = trial.lend_any(out_len, left[2]);
@@ -49,7 +50,7 @@ pub fn passes(trial: &mut Trial) -> u8 {
     let expected = reference::pass_by_pass(&recipe, width, height, pixels, out_len, cells_len);
     let left = expected.as_deref().unwrap_or(&[]);
     let block = trial.give(&[filter]);
-    let p = trial.give(pixels);
+    let p = trial.give(&narrow(pixels));
     let out = trial.lend_any(out_len, left);
     let cells = trial.lend_free(cells_len, left.len());
     let p_len = pixels.len();

@@ -4,18 +4,18 @@
 use crate::{blur, columns, one_pass, rows, subtract, sums};
 use reference::random::Random;
 use reference::{
-    boresums, coefficients_of, grown_sides, read_job, reading, round_row, same, weight, Choice,
-    Reading, Recipe,
+    boresums, coefficients_of, grown_sides, pixels_of, read_job, reading, round_row, same, weight,
+    BoxFilter, Choice, Reading, Recipe,
 };
 
 /// Puts one box on every row of a picture w wide: each output is the plain sum
-/// of the n places that end there.
-fn box_on_rows(picture: &[u64], w: usize, n: u8) -> Vec<u64> {
-    let n = usize::from(n);
+/// of the n places that end there, s apart.
+fn box_on_rows(picture: &[u64], w: usize, one: BoxFilter) -> Vec<u64> {
+    let (n, s) = (usize::from(one.width), usize::from(one.spread));
     let mut out = Vec::new();
     for row in picture.chunks(w) {
-        for i in 0..w + n - 1 {
-            let inside = (0..w).filter(|&x| x <= i && i < x + n);
+        for i in 0..w + (n - 1) * s {
+            let inside = (0..w).filter(|&x| x <= i && i < x + n * s && (i - x) % s == 0);
             out.push(inside.map(|x| row[x]).sum());
         }
     }
@@ -29,24 +29,21 @@ fn turned(picture: &[u64], w: usize) -> Vec<u64> {
 }
 
 /// The grown picture, box by box.
-fn box_by_box(recipe: &Recipe, w: usize, h: usize, pixels: &[u8]) -> Vec<u64> {
-    let mut picture: Vec<u64> = pixels.iter().map(|&pixel| pixel.into()).collect();
-    let mut width = w;
-    for &n in &recipe.rows {
-        picture = box_on_rows(&picture, width, n);
-        width += usize::from(n) - 1;
+fn box_by_box(recipe: &Recipe, h: usize, pixels: &[u64]) -> Vec<u64> {
+    let mut picture = pixels.to_vec();
+    for &one in &recipe.rows {
+        picture = box_on_rows(&picture, picture.len() / h, one);
     }
+    let width = picture.len() / h;
     picture = turned(&picture, width);
-    let mut height = h;
-    for &n in &recipe.columns {
-        picture = box_on_rows(&picture, height, n);
-        height += usize::from(n) - 1;
+    for &one in &recipe.columns {
+        picture = box_on_rows(&picture, picture.len() / width, one);
     }
-    turned(&picture, height)
+    turned(&picture, picture.len() / width)
 }
 
 /// A small random recipe and picture.
-fn random_case(random: &mut Random) -> (Recipe, usize, usize, Vec<u8>) {
+fn random_case(random: &mut Random) -> (Recipe, usize, usize, Vec<u64>) {
     let recipe = random.valid_recipe(12);
     let (w, h) = (random.between(1, 7), random.between(1, 7));
     let pixels = random.pixels(w * h);
@@ -58,7 +55,7 @@ fn definition_agrees_with_box_by_box() {
     let mut random = Random::new(1);
     for _ in 0..300 {
         let (recipe, w, h, pixels) = random_case(&mut random);
-        let expected = box_by_box(&recipe, w, h, &pixels);
+        let expected = box_by_box(&recipe, h, &pixels);
         assert_eq!(sums(&recipe, w, h, &pixels), expected);
         assert_eq!(one_pass(&recipe, w, h, &pixels).0, expected);
     }
@@ -75,7 +72,7 @@ fn definition_agrees_with_box_by_box_at_the_limits() {
             random.recipe_just_below(),
         ] {
             let pixels = random.pixels(6);
-            let expected = box_by_box(&recipe, 3, 2, &pixels);
+            let expected = box_by_box(&recipe, 2, &pixels);
             assert_eq!(sums(&recipe, 3, 2, &pixels), expected);
         }
     }
@@ -142,7 +139,7 @@ fn difference_turns_its_sign_and_is_0_for_equal_recipes() {
         let a = Recipe::new(&list(&mut random), &[3]);
         let b = Recipe::new(&list(&mut random), &[2, 2]);
         let there = subtract(&a, &b, w, h, &pixels);
-        let back: Vec<i16> = subtract(&b, &a, w, h, &pixels).iter().map(|v| -v).collect();
+        let back: Vec<i64> = subtract(&b, &a, w, h, &pixels).iter().map(|v| -v).collect();
         assert_eq!(there, back);
         assert_eq!(subtract(&a, &a, w, h, &pixels), vec![0; w * h]);
     }
@@ -155,10 +152,10 @@ fn shuffled_recipes_with_ones_are_the_same() {
         let recipe = random.valid_recipe(40);
         let mut other = recipe.clone();
         other.rows.reverse();
-        other.columns.retain(|&n| n != 1);
+        other.columns.retain(|one| one.width != 1);
         assert_eq!(same(&recipe, &other), Ok(true));
         if let Some(first) = other.rows.first_mut() {
-            *first = if *first == 1 { 2 } else { 1 };
+            first.width = if first.width == 1 { 2 } else { 1 };
             if let Ok(equal) = same(&recipe, &other) {
                 assert!(!equal);
             }
@@ -209,7 +206,8 @@ fn program_prints_the_sums_of_random_jobs() {
     for _ in 0..100 {
         let bytes = random.job(8, 8);
         let job = read_job(&bytes).unwrap();
-        let all = sums(&job.recipe, job.w, job.h, &bytes[job.offset..]);
+        let pixels = pixels_of(&bytes[job.offset..]);
+        let all = sums(&job.recipe, job.w, job.h, &pixels);
         let (width, height) = grown_sides(&job.recipe, job.w, job.h).unwrap();
         let text = boresums(&bytes);
         assert!(text.ends_with('\n') && text.lines().count() == height + 1);

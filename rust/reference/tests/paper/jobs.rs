@@ -1,7 +1,7 @@
 //! The job file and the text of the program.
 
 use crate::rows;
-use reference::{boresums, job_length, read_job, write_job, Job, Recipe};
+use reference::{boresums, job_length, pixels_of, read_job, write_job, Job, Recipe};
 
 const EXAMPLE: [u8; 14] = [
     0x42, 0x4F, 0x52, 0x01, 0x00, 0x02, 0x00, 0x02, 0x02, 0x01, 0x00, 0x01, 0x00, 0x04,
@@ -48,7 +48,7 @@ fn numbers_are_low_byte_first() {
     let job = job_of([0, 0], &[], [0x0102, 0x0201], 0x0102 * 0x0201);
     let read = read_job(&job).unwrap();
     assert_eq!((read.w, read.h, read.offset), (258, 513, 11));
-    let written = write_job(&read.recipe, 258, 513, &job[11..], job.len());
+    let written = write_job(&read.recipe, 258, 513, &pixels_of(&job[11..]), job.len());
     assert_eq!(written, Ok(job));
 }
 

@@ -11,7 +11,7 @@ mod triangle;
 mod wall_pieces;
 
 use reference::{
-    difference, difference_cells, exact_sums, grown_sides, needed_cells, same_size_blur,
+    boxes, difference, difference_cells, exact_sums, grown_sides, needed_cells, same_size_blur,
     same_size_cells, Recipe, Stream,
 };
 
@@ -23,25 +23,30 @@ fn columns(list: &[u8]) -> Recipe {
     Recipe::new(&[], list)
 }
 
+/// The coefficients of a list of widths.
+fn coefficients(widths: &[u8], out_len: usize) -> Result<Vec<u64>, u8> {
+    reference::coefficients(&boxes(widths), out_len)
+}
+
 /// All exact sums of an accepted recipe and picture.
-fn sums(recipe: &Recipe, w: usize, h: usize, pixels: &[u8]) -> Vec<u64> {
+fn sums(recipe: &Recipe, w: usize, h: usize, pixels: &[u64]) -> Vec<u64> {
     exact_sums(recipe, w, h, pixels).unwrap()
 }
 
 /// The same-size blur with buffers of just the right lengths.
-fn blur(recipe: &Recipe, w: usize, h: usize, pixels: &[u8]) -> Vec<u8> {
+fn blur(recipe: &Recipe, w: usize, h: usize, pixels: &[u64]) -> Vec<u64> {
     let cells = same_size_cells(recipe, w, h).unwrap();
     same_size_blur(recipe, w, h, pixels, w * h, cells).unwrap()
 }
 
 /// The difference with buffers of just the right lengths.
-fn subtract(a: &Recipe, b: &Recipe, w: usize, h: usize, pixels: &[u8]) -> Vec<i16> {
+fn subtract(a: &Recipe, b: &Recipe, w: usize, h: usize, pixels: &[u64]) -> Vec<i64> {
     let cells = difference_cells(a, b, w, h).unwrap();
     difference(a, b, w, h, pixels, w * h, cells).unwrap()
 }
 
 /// All rows that the one pass yields, and the total of its counts.
-fn one_pass(recipe: &Recipe, w: usize, h: usize, pixels: &[u8]) -> (Vec<u64>, u64) {
+fn one_pass(recipe: &Recipe, w: usize, h: usize, pixels: &[u64]) -> (Vec<u64>, u64) {
     let cells = needed_cells(recipe, w).unwrap();
     let (width, height) = grown_sides(recipe, w, h).unwrap();
     let started = Stream::start(recipe, w, h, cells);

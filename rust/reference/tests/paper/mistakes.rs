@@ -21,8 +21,7 @@ fn rounding_after_each_box() {
 #[test]
 fn rounding_both_blurs_before_the_difference() {
     let (a, b) = (rows(&[]), rows(&[2, 2]));
-    let grey_a = i16::from(blur(&a, 1, 1, &[255])[0]);
-    let grey_b = i16::from(blur(&b, 1, 1, &[255])[0]);
+    let (grey_a, grey_b) = (blur(&a, 1, 1, &[255])[0], blur(&b, 1, 1, &[255])[0]);
     assert_eq!(grey_a - grey_b, 127);
 
     assert_eq!(subtract(&a, &b, 1, 1, &[255]), [128]);

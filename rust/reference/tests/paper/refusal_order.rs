@@ -2,11 +2,11 @@
 //! many faults as possible at once, and the faults are mended from the one that
 //! has to be named first to the last.
 
-use crate::{columns, rows};
+use crate::{coefficients, columns, rows};
 use reference::{
-    check, coefficients, difference, difference_cells, direct, exact_sums, grown_sides, job_length,
-    needed_cells, pass_by_pass, reading, round_row, row_cost, same, same_size_blur, scale_card,
-    start_refusal, write_job, Choice, Reading, Recipe,
+    check, difference, difference_cells, direct, exact_sums, grown_sides, job_length, needed_cells,
+    pass_by_pass, reading, round_row, row_cost, same, same_size_blur, scale_card, start_refusal,
+    write_job, Choice, Reading, Recipe,
 };
 
 /// For each number 1 to 4 recipes for which it is the lowest that applies, on
@@ -117,7 +117,7 @@ fn exact_sums_of_a_picture() {
 fn pass_by_pass_method() {
     names_the_recipe(|recipe| pass_by_pass(recipe, 0, 0, &[1], 0, 0));
     names_the_sides(|w, h| pass_by_pass(&both(), w, h, &[], 0, 0));
-    let call = |pixels: &[u8], out, cells| pass_by_pass(&both(), 2, 1, pixels, out, cells);
+    let call = |pixels: &[u64], out, cells| pass_by_pass(&both(), 2, 1, pixels, out, cells);
     assert_eq!(call(&[1], 0, 0), Err(6));
     assert_eq!(call(&[1, 2], 19, 0), Err(7));
     assert_eq!(call(&[1, 2], 21, 0), Err(7));
@@ -131,7 +131,7 @@ fn pass_by_pass_method() {
 fn direct_method() {
     names_the_recipe(|recipe| direct(recipe, 0, 0, &[1], 0, 0, 0));
     names_the_sides(|w, h| direct(&both(), w, h, &[], 0, 0, 0));
-    let call = |pixels: &[u8], r, c, out| direct(&both(), 2, 1, pixels, r, c, out);
+    let call = |pixels: &[u64], r, c, out| direct(&both(), 2, 1, pixels, r, c, out);
     assert_eq!(call(&[1], 0, 0, 0), Err(6));
     assert_eq!(call(&[1, 2], 3, 4, 20), Err(7));
     assert_eq!(call(&[1, 2], 4, 5, 20), Err(7));
@@ -160,7 +160,7 @@ fn rounding_of_a_row() {
 fn same_size_blur_of_a_picture() {
     names_the_recipe(|recipe| same_size_blur(recipe, 0, 0, &[1], 9, 0));
     names_the_sides(|w, h| same_size_blur(&both(), w, h, &[], 9, 0));
-    let call = |pixels: &[u8], out, cells| same_size_blur(&both(), 2, 1, pixels, out, cells);
+    let call = |pixels: &[u64], out, cells| same_size_blur(&both(), 2, 1, pixels, out, cells);
     assert_eq!(call(&[1], 1, 0), Err(6));
     assert_eq!(call(&[1, 2], 1, 0), Err(7));
     assert_eq!(call(&[1, 2], 3, 0), Err(7));
@@ -186,7 +186,7 @@ fn difference_of_two_recipes() {
     // Odd and even reaches on the rows, and a weight product of 2^45.
     let (a, b) = (rows(&[2]), rows(&[2; 44]));
     let cells = 2 * (3 + 46);
-    let call = |b: &Recipe, pixels: &[u8], out, cells| difference(&a, b, 2, 1, pixels, out, cells);
+    let call = |b: &Recipe, pixels: &[u64], out, cells| difference(&a, b, 2, 1, pixels, out, cells);
     assert_eq!(call(&b, &[1], 1, 0), Err(6));
     assert_eq!(call(&b, &[1, 2], 1, 0), Err(7));
     assert_eq!(call(&b, &[1, 2], 3, 0), Err(7));
@@ -215,7 +215,7 @@ fn reading_at_one_place() {
     for choice in [Choice::Grey, Choice::Sum, Choice::Quotient] {
         names_the_recipe(|recipe| reading(recipe, 0, 0, &[1], (9, 9), choice));
         names_the_sides(|w, h| reading(&both(), w, h, &[], (9, 9), choice));
-        let call = |pixels: &[u8], place| reading(&both(), 2, 1, pixels, place, choice);
+        let call = |pixels: &[u64], place| reading(&both(), 2, 1, pixels, place, choice);
         assert_eq!(call(&[1], (2, 1)), Err(6));
         assert_eq!(call(&[1, 2], (2, 0)), Err(15));
         assert_eq!(call(&[1, 2], (0, 1)), Err(15));
@@ -239,7 +239,7 @@ fn sameness_names_a_before_b() {
 fn writing_a_job() {
     names_the_recipe(|recipe| write_job(recipe, 0, 0, &[1], 0));
     names_the_sides(|w, h| write_job(&both(), w, h, &[], 0));
-    let call = |pixels: &[u8], out| write_job(&both(), 2, 1, pixels, out);
+    let call = |pixels: &[u64], out| write_job(&both(), 2, 1, pixels, out);
     assert_eq!(call(&[1], 0), Err(6));
     assert_eq!(call(&[1, 2], 15), Err(7));
     assert_eq!(call(&[1, 2], 17), Err(7));

@@ -1,8 +1,8 @@
 //! The triangle of source document 001: the coefficients of a list of N twos,
 //! with row 8 as document 01 mends it.
 
-use crate::{columns, rows};
-use reference::{coefficients, direct, weight, TRIANGLE};
+use crate::{coefficients, columns, rows};
+use reference::{direct, weight, TRIANGLE};
 
 /// The row as the copy of 001 prints it.
 const PRINTED_ROW_8: [u64; 9] = [1, 8, 28, 56, 70, 56, 35, 8, 1];

@@ -1,9 +1,9 @@
 //! The cases under "Wall pieces to try".
 
-use crate::{blur, columns, one_pass, rows, subtract, sums};
+use crate::{blur, coefficients, columns, one_pass, rows, subtract, sums};
 use reference::{
-    check, coefficients, difference_of_sums, exact_sums, grown_sides, job_length, needed_cells,
-    reading, round_row, same, scale_card, weight, Choice, Reading, Recipe,
+    check, difference_of_sums, exact_sums, grown_sides, job_length, needed_cells, reading,
+    round_row, same, scale_card, weight, Choice, Reading, Recipe,
 };
 
 #[test]
