@@ -7,12 +7,12 @@ use Prim.Native.Nat.{ℕ, _+_, _-_, _≤_, _<_}
 use native.Mathlib.Decide.{decLt}
 use native.Mathlib.Omega.{arith}
 use lib.ListN.{length, getD}
-use lib.Seq.{ext-getD}
+use lib.Seq.{ext-getD, take-all}
 use Rattle.spec.specs.declared.Cascade.{Cascade}
 use Rattle.spec.specs.declared.Filter.{Filter}
 use Rattle.spec.specs.Words.{tab, part}
-use Rattle.laws.proofs.Lists.{tab-agree, tab-getD, getD-tab}
-use Rattle.blocks.specs.Given.{listAt, given}
+use Rattle.laws.proofs.Lists.{tab-agree, tab-getD, getD-tab, part-take}
+use Rattle.blocks.specs.Given.{listAt, given, blockOf}
 
 -- a list whose count and widths stand at a place
 pub list-stands : (at : ℕ) (block : List ℕ) (list : Cascade) → length (list .widths) ≡ 48 → getD block at 0 ≡ list .count
@@ -59,6 +59,11 @@ given-one a b la lb e =
       | yes v ↦ list-bytes 0 a b (ap (λ (f : Filter). f .rows) e) k (omega arith) (omega arith)
       | no v ↦ list-bytes 49 a b (ap (λ (f : Filter). f .columns) e) k (omega arith) (omega arith)
     ])
+
+-- a block is that of the recipe that it stands for
+pub own-block : (block : List ℕ) → length block ≡ 98 → block ≡ blockOf (given block)
+unfolding given listAt blockOf part tab
+own-block block size = sym (part-take 98 block (omega arith) ∙ take-all 98 block (omega arith))
 
 -- two blocks of three words that have the same words are the same
 pub words-one : (a b : List ℕ) → length a ≡ 3 → length b ≡ 3 → getD a 0 0 ≡ getD b 0 0 → getD a 1 0 ≡ getD b 1 0 → getD a 2 0 ≡ getD b 2 0

@@ -4,7 +4,7 @@
 ghost use mathlib.Core.Path.{_≡_};
 ghost use Prim.Native.Nat.{ℕ, _+_, _≤_, _<_};
 ghost use lib.ListN.{length, getD};
-ghost use Rattle.blocks.specs.Given.{listAt, given};
+ghost use Rattle.blocks.specs.Given.{listAt, given, blockOf};
 use spec::Cascade;
 use spec::Filter;
 
@@ -56,7 +56,7 @@ fn put_list(list: Cascade, block: &mut [u8], at: usize)
 
 // Makes a block stand for a recipe.
 pub fn put_filter(filter: Filter, block: &mut [u8; 98])
-    ensures { λ r. ⌜ given (now (block .exit)) ≡ filter ⌝ }
+    ensures { λ r. ⌜ (now (block .exit) ≡ blockOf filter) × (given (now (block .exit)) ≡ filter) ⌝ }
 {
     put_list(filter.rows, block, 0);
     put_list(filter.columns, block, 49);

@@ -1,10 +1,9 @@
--- Differences: the nearest whole number of each sign, a byte and its negation in 16 bits, and how large a sum times the other weight is.
+-- Differences: the nearest whole number of each sign, and a byte and its negation in 16 bits.
 -- Assumes nothing.
 use mathlib.Core.Path.{_≡_, sym, ap, ap₂, subst, _∙_}
 use mathlib.Core.Bool.{Bool, true, false, cond}
 use mathlib.Core.List.{List}
 use Prim.Native.Nat.{ℕ, zero, suc, _-_, _*_, _^_, _≤_, _<_}
-use native.Mathlib.Nat.{mul-le-mul-right, mul-assoc}
 use native.Mathlib.Omega.{arith}
 use borrow.Author.Tests.{le-leb, lt-leb}
 use lib.Dec.{ltb}
@@ -51,10 +50,6 @@ apart-fits m n g h = subst (SFits w16) (sym (ap₂ _-ℤ_ (byte-is m g) (byte-is
         go : (b : Bool) → mag (cond b (negsuc (suc n - suc m)) (pos (m - suc n))) < 2 ^ 15
         go true = omega arith
         go false = omega arith
-
--- a sum of at most 255 times its own weight, times the other weight
-pub times-other : (own other s : ℕ) → s ≤ 255 * own → s * other ≤ 255 * (own * other)
-times-other own other s h = omega (arith, mul-le-mul-right other h, mul-assoc 255 own other)
 
 -- two rows of the sums that are taken, as a row of differences
 pub row-of-differences : (a b : Recipe) (p : Picture) (j : ℕ) (xs ys : List ℕ) (u v m : ℕ) → u ≡ gain a → v ≡ gain b → m ≡ p .width

@@ -4,7 +4,7 @@ ghost use Prim.Native.Nat.{_*_, _/_, _^_, _≤_, _<_};
 ghost use lib.ListN.{length, getD, take, drop};
 ghost use Rattle.spec.specs.Words.{tab};
 ghost use Rattle.spec.specs.Recipe.{recipe};
-ghost use Rattle.spec.specs.Picture.{picture, fullWidth, fullHeight};
+ghost use Rattle.spec.specs.Picture.{picture, largestGray, fullWidth, fullHeight};
 ghost use Rattle.spec.specs.Refusals.{first, sizeChecks, startChecks};
 ghost use Rattle.filter.proofs.Refusal.{Known};
 ghost use Rattle.spec.specs.Gray.{nearestDifference, places as placesOf, difference as differenceOf};
@@ -31,7 +31,7 @@ const HEAVIEST: u64 = 17_592_186_044_416;
 // (x - y) over what `by` divides by, to the nearest whole number, a half away from zero. It is rounded
 // once, whatever the sign, so that a loop has no branch on the sign.
 fn signed(x: u64, y: u64, by: Divisor) -> i16
-    requires { ⌜ Divides (by .weight) by × (x ≤ 255 * by .weight) × (y ≤ 255 * by .weight) ⌝ }
+    requires { ⌜ Divides (by .weight) by × (x ≤ largestGray * by .weight) × (y ≤ largestGray * by .weight) ⌝ }
     ensures { λ r. ⌜ r ≡ nearestDifference x y (by .weight) ⌝ }
 {
     let gap = if y <= x { x - y } else { y - x };
@@ -48,7 +48,7 @@ struct Weights {
 
 // The differences of two rows of sums.
 fn difference_row(weights: Weights, a_sums: &[u64], b_sums: &[u64], out: &mut [i16])
-    requires { ⌜ Divides (weights .a * weights .b) (weights .by) × Bounded (weights .a) (now «a_sums») × Bounded (weights .b) (now «b_sums»)
+    requires { ⌜ Divides (weights .a * weights .b) (weights .by) × Bounded largestGray (weights .a) (now «a_sums») × Bounded largestGray (weights .b) (now «b_sums»)
         × (length (now «a_sums») ≡ length (now out)) × (length (now «b_sums») ≡ length (now out)) ⌝ }
     ensures { λ r. ⌜ now (out .exit) ≡ tab (length (now (out .entry)))
         (λ k. nearestDifference (getD (now («a_sums» .entry)) k 0 * weights .b) (getD (now («b_sums» .entry)) k 0 * weights .a) (weights .a * weights .b)) ⌝ }

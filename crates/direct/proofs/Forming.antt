@@ -10,7 +10,7 @@ use lib.Dec.{eqb}
 use lib.ListN.{length}
 use borrow.Author.Tests.{ne-eqb, le-ltb}
 use Rattle.spec.specs.Words.{product, somewhere, total}
-use Rattle.spec.specs.Recipe.{Recipe, kernel, order, gain}
+use Rattle.spec.specs.Recipe.{Recipe, kernel, boxOrder, order, weight, gain}
 use Rattle.spec.specs.Picture.{Picture, exact, fullWidth, fullHeight, full}
 use Rattle.spec.specs.Refusals.{first, check, alone, tooLong, zeroWidth, tooFar, tooHeavy, otherPixels, otherOutput, fullSize, recipeChecks, sizeChecks, pictureChecks, kernelChecks, directChecks}
 use Rattle.laws.proofs.Numbers.{neither}
@@ -20,7 +20,7 @@ use Rattle.laws.proofs.Exact.{rows-pos, columns-pos}
 use Rattle.laws.proofs.Refusals.{Accepted, AcceptedPicture, as-stated, not-stated, picture-sides, picture-pixels, picture-rest, first-then, first-none, none-both, recipe-numbered, picture-numbered, is-accepted-picture, same-length-so, lent-refused, lent-accepted}
 use Rattle.filter.specs.Filled.{Filled}
 use Rattle.direct.specs.Formed.{checks, Formed}
-use Rattle.direct.specs.Windows.{window, windows, weight, Ready}
+use Rattle.direct.specs.Windows.{window, windows, mass, Ready}
 use Rattle.direct.proofs.Weighing.{window-exact, windows-full}
 
 module _ (r : Recipe) (p : Picture) (rows columns out : ℕ) where
@@ -101,19 +101,19 @@ is-called r p rows columns out e =
 -- a list that is accepted as a recipe of its own
 pub record Light (ns : List ℕ) : Type 0 where
   pub short : length ns ≤ 48
-  pub notZero : 0 < product ns
+  pub notZero : 0 < weight ns
   pub reach : order ns ≤ 255
-  pub weight : product ns ≤ 2 ^ 44
+  pub light : weight ns ≤ 2 ^ 44
 
 light-alone : (ns : List ℕ) → Light ns → first (recipeChecks (alone ns)) ≡ 0
-unfolding first recipeChecks check alone tooLong zeroWidth tooFar tooHeavy gain product somewhere order total
+unfolding first recipeChecks check alone tooLong zeroWidth tooFar tooHeavy weight gain product somewhere boxOrder order total
 light-alone ns l =
-    let zeros : somewhere (λ n. eqb n 0) ns ≡ false = product-zero ns ∙ ne-eqb (product ns) 0 (λ e. omega (arith, l .notZero)) in
+    let zeros : somewhere (λ n. eqb n 0) ns ≡ false = product-zero ns ∙ ne-eqb (weight ns) 0 (λ e. omega (arith, l .notZero)) in
     rw (
       le-ltb 48 (length ns) (l .short),
       zeros,
       le-ltb 255 (order ns) (l .reach),
-      le-ltb (2 ^ 44) (product ns * 1) (omega (arith, l .weight, mul-one (product ns))),
+      le-ltb (2 ^ 44) (weight ns * 1) (omega (arith, l .light, mul-one (weight ns))),
     ) refl
 
 -- the coefficients of such a list are filled in
@@ -125,10 +125,10 @@ filled-whole ns old new number l s f =
 
 -- both lists of an accepted recipe are
 module _ (r : Recipe) (k : Accepted r) where
-  across-pos : 0 < product (r .rows)
+  across-pos : 0 < weight (r .rows)
   across-pos = rows-pos r (k .notZero)
 
-  down-pos : 0 < product (r .columns)
+  down-pos : 0 < weight (r .columns)
   down-pos = columns-pos r (k .notZero)
 
   rows-light : Light (r .rows)
@@ -138,7 +138,7 @@ module _ (r : Recipe) (k : Accepted r) where
         short = k .rowsShort;
         notZero = across-pos;
         reach = k .rowReach;
-        weight = le-trans (le-mul-of-pos-right (product (r .rows)) down-pos) (k .light);
+        light = le-trans (le-mul-of-pos-right (weight (r .rows)) down-pos) (k .light);
       }
 
   columns-light : Light (r .columns)
@@ -148,9 +148,9 @@ module _ (r : Recipe) (k : Accepted r) where
         short = k .columnsShort;
         notZero = down-pos;
         reach = k .columnReach;
-        weight =
-            le-trans (le-mul-of-pos-right (product (r .columns)) across-pos)
-            (le-trans (le-of-eq (mul-comm (product (r .columns)) (product (r .rows)))) (k .light));
+        light =
+            le-trans (le-mul-of-pos-right (weight (r .columns)) across-pos)
+            (le-trans (le-of-eq (mul-comm (weight (r .columns)) (weight (r .rows)))) (k .light));
       }
 
   -- and the coefficients of both are filled in
@@ -167,13 +167,13 @@ module _ (r : Recipe) (p : Picture) (k : AcceptedPicture r p) (rs cs : List ℕ)
   pub column-length : length cs ≡ order (r .columns) + 1
   column-length = ap length b ∙ length-kernel (r .columns) (down-pos r (k .recipe))
 
-  row-weight : weight rs ≤ product (r .rows)
-  unfolding weight
-  row-weight = rw a (kernel-sum (r .rows) (length (kernel (r .rows))))
+  row-mass : mass rs ≤ weight (r .rows)
+  unfolding mass
+  row-mass = rw a (kernel-sum (r .rows) (length (kernel (r .rows))))
 
-  column-weight : weight cs ≤ product (r .columns)
-  unfolding weight
-  column-weight = rw b (kernel-sum (r .columns) (length (kernel (r .columns))))
+  column-mass : mass cs ≤ weight (r .columns)
+  unfolding mass
+  column-mass = rw b (kernel-sum (r .columns) (length (kernel (r .columns))))
 
   pub held-ready : Ready rs cs p
   unfolding gain
@@ -184,8 +184,8 @@ module _ (r : Recipe) (p : Picture) (k : AcceptedPicture r p) (rs cs : List ℕ)
         high = k .sides .height;
         rows = (omega (arith, row-length), omega (arith, row-length, k .recipe .rowReach));
         columns = (omega (arith, column-length), omega (arith, column-length, k .recipe .columnReach));
-        rowWeight = le-trans row-weight (rows-light r (k .recipe) .weight);
-        light = le-trans (mul-le-mul row-weight column-weight) (k .recipe .light);
+        rowMass = le-trans row-mass (rows-light r (k .recipe) .light);
+        light = le-trans (mul-le-mul row-mass column-mass) (k .recipe .light);
       }
 
   pub held-size : (out : ℕ) → out ≡ fullSize r p → out ≡ (p .height + length cs - 1) * (p .width + length rs - 1)

@@ -19,7 +19,7 @@ use Rattle.laws.proofs.Kernels.{at, length-kernel}
 use Rattle.laws.proofs.Exact.{pixel-right, pixel-below, pixel-inside, line, across, exact-down, rows-pos, columns-pos}
 use Rattle.laws.proofs.Rows.{length-rows, rows-more}
 use Rattle.laws.proofs.Slices.{Mixed}
-use Rattle.direct.specs.Windows.{through, window, windows, weight}
+use Rattle.direct.specs.Windows.{through, window, windows, mass}
 
 -- terms from m on that are 0 do not count
 sum-front : (f : ℕ → ℕ) (m n : ℕ) → m ≤ n → ((k : ℕ) → m ≤ k → f k ≡ 0) → sum n f ≡ sum m f
@@ -64,8 +64,8 @@ module _ (ks : List ℕ) (f : ℕ → ℕ) (i most : ℕ) where
         small = omega (arith, w .small, here, ap (λ x. most * x) all, mul-add most (sum a (at ks)) (at ks a));
       }
 
-  pub weighed-fits : {a acc : ℕ} → Weighed a acc → a ≤ length ks → acc ≤ most * weight ks
-  unfolding weight
+  pub weighed-fits : {a acc : ℕ} → Weighed a acc → a ≤ length ks → acc ≤ most * mass ks
+  unfolding mass
   weighed-fits {a} w h = le-trans (w .small) (mul-le-mul-left most (sum-grows (at ks) a (length ks) h))
 
   -- no term counts at which the sequence is before its start

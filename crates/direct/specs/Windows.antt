@@ -22,8 +22,8 @@ unfoldable pub windows : List ℕ → List ℕ → Picture → List ℕ
 windows rs cs p = flatten (tab (p .height + length cs - 1) (λ j. tab (p .width + length rs - 1) (λ i. window rs cs p i j)))
 
 -- what coefficients add up to
-unfoldable pub weight : List ℕ → ℕ
-weight ks = sum (length ks) (at ks)
+unfoldable pub mass : List ℕ → ℕ
+mass ks = sum (length ks) (at ks)
 
 -- coefficients and a picture for which no sum is too large
 pub record Ready (rs cs : List ℕ) (p : Picture) : Type 0 where
@@ -32,5 +32,5 @@ pub record Ready (rs cs : List ℕ) (p : Picture) : Type 0 where
   pub high : (0 < p .height) × (p .height ≤ 1024)
   pub rows : (0 < length rs) × (length rs ≤ 256)
   pub columns : (0 < length cs) × (length cs ≤ 256)
-  pub rowWeight : weight rs ≤ 2 ^ 44
-  pub light : weight rs * weight cs ≤ 2 ^ 44
+  pub rowMass : mass rs ≤ 2 ^ 44
+  pub light : mass rs * mass cs ≤ 2 ^ 44

@@ -6,6 +6,9 @@ mod sums;
 pub use points::Point;
 pub use points::point_sum;
 ghost use mathlib.Core.Path.{_≡_};
+ghost use mathlib.Core.List.{List};
+ghost use Prim.Native.Nat.{ℕ};
+ghost use lib.ListN.{length};
 ghost use Rattle.spec.specs.Recipe.{recipe};
 ghost use Rattle.spec.specs.Picture.{picture};
 ghost use Rattle.spec.specs.Refusals.{first, directChecks};
@@ -14,17 +17,17 @@ use crate::sums::form;
 use filter::FullSize;
 use spec::Filter;
 
-// The number of the first of 1 to 7 that applies, 0 where none does.
+// The number of the first of 1 to 7 that applies, 0 where none does, by the lengths of the slices alone.
 fn refusal(
     filter: Filter,
     width: usize,
     height: usize,
-    pixels: &[u8],
+    pixels: usize,
     rows: usize,
     columns: usize,
     out: usize,
 ) -> u8
-    ensures { λ r. ⌜ r ≡ first (directChecks (recipe filter) (picture width height (now (pixels .entry))) rows columns out) ⌝ }
+    ensures { λ r. ⌜ ((xs : List ℕ) → length xs ≡ pixels → r ≡ first (directChecks (recipe filter) (picture width height xs) rows columns out)) ⌝ }
 {
     let answer = filter::full_size(filter, width, height);
     match answer {
@@ -33,7 +36,7 @@ fn refusal(
             width: grown_width,
             height: grown_height,
         } => {
-            if pixels.len() != width * height {
+            if pixels != width * height {
                 6
             } else if rows != grown_width - width + 1 {
                 7
@@ -67,7 +70,7 @@ pub fn direct(
         filter,
         width,
         height,
-        pixels,
+        pixels.len(),
         row_kernel.len(),
         column_kernel.len(),
         out.len(),

@@ -1,6 +1,7 @@
 // The exact sum at one picture place, formed from the window alone.
 ghost use mathlib.Core.Path.{_≡_};
-ghost use Prim.Native.Nat.{_+_, _<_};
+ghost use mathlib.Core.List.{List};
+ghost use Prim.Native.Nat.{ℕ, _+_, _<_};
 ghost use lib.ListN.{length};
 ghost use Rattle.spec.specs.Recipe.{recipe, order};
 ghost use Rattle.spec.specs.Picture.{picture, exact};
@@ -18,16 +19,17 @@ pub enum Point {
     Refused(u8),
 }
 
-// The number of the first of 1 to 6 and 15 that applies, 0 where none does.
+// The number of the first of 1 to 6 and 15 that applies, 0 where none does, by the length of the slice
+// alone.
 fn refusal(
     filter: Filter,
     width: usize,
     height: usize,
-    pixels: &[u8],
+    pixels: usize,
     column: usize,
     row: usize,
 ) -> u8
-    ensures { λ r. ⌜ r ≡ first (readingChecks (recipe filter) (picture width height (now (pixels .entry))) column row) ⌝ }
+    ensures { λ r. ⌜ ((xs : List ℕ) → length xs ≡ pixels → r ≡ first (readingChecks (recipe filter) (picture width height xs) column row)) ⌝ }
 {
     let answer = filter::full_size(filter, width, height);
     match answer {
@@ -36,7 +38,7 @@ fn refusal(
             width: _,
             height: _,
         } => {
-            if pixels.len() != width * height {
+            if pixels != width * height {
                 6
             } else if width <= column {
                 15
@@ -83,7 +85,7 @@ pub fn point_sum(
     ensures { λ r. let p = picture width height (now (pixels .entry)) in
         ⌜ pointTold r ≡ answer (readingChecks (recipe filter) p column row) (sameSum (recipe filter) p column row) ⌝ }
 {
-    let number = refusal(filter, width, height, pixels, column, row);
+    let number = refusal(filter, width, height, pixels.len(), column, row);
     if number != 0 {
         return Point::Refused(number);
     }

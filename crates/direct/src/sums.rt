@@ -5,7 +5,7 @@ ghost use lib.ListN.{length};
 ghost use Rattle.spec.specs.Words.{tab};
 ghost use Rattle.spec.specs.Picture.{picture};
 ghost use Rattle.laws.proofs.Kernels.{at};
-ghost use Rattle.direct.specs.Windows.{through, window, windows, weight, Ready};
+ghost use Rattle.direct.specs.Windows.{through, window, windows, mass, Ready};
 
 // A pixel as a number of 64 bits.
 fn wide(x: u8) -> u64
@@ -31,8 +31,8 @@ fn window_end(i: usize, m: usize) -> usize
 
 // The sum along a line at i.
 fn across(line: &[u8], kernel: &[u64], i: usize) -> u64
-    requires { ⌜ (0 < length (now line)) × (i + 1 < length (now line) + length (now kernel)) × (weight (now kernel) ≤ 2 ^ 44) ⌝ }
-    ensures { λ r. ⌜ (r ≡ through (now (kernel .entry)) (at (now (line .entry))) i) × (r ≤ 255 * weight (now (kernel .entry))) ⌝ }
+    requires { ⌜ (0 < length (now line)) × (i + 1 < length (now line) + length (now kernel)) × (mass (now kernel) ≤ 2 ^ 44) ⌝ }
+    ensures { λ r. ⌜ (r ≡ through (now (kernel .entry)) (at (now (line .entry))) i) × (r ≤ 255 * mass (now (kernel .entry))) ⌝ }
 {
     let end = window_end(i, kernel.len());
     let mut total: u64 = 0;

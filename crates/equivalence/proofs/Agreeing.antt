@@ -9,7 +9,7 @@ use native.Mathlib.Omega.{arith}
 use lib.ListN.{getD}
 use Rattle.spec.specs.declared.Filter.{Filter}
 use Rattle.spec.specs.Recipe.{Recipe, recipe, order, gain}
-use Rattle.spec.specs.Picture.{Sides, fullSides, fullWidth, fullHeight, exact, fullRow}
+use Rattle.spec.specs.Picture.{largestGray, Within, Sides, fullSides, fullWidth, fullHeight, exact, fullRow}
 use Rattle.spec.specs.Same.{sameCounts, equivalent, SameCounts}
 use Rattle.spec.specs.Refusals.{Answer, first, accepted, recipeChecks, sizeChecks, pictureChecks, compareChecks, badSides, badSide}
 use Rattle.laws.proofs.Numbers.{both}
@@ -17,7 +17,6 @@ use Rattle.laws.proofs.Lists.{getD-tab}
 use Rattle.laws.proofs.Refusals.{first-rest, first-then, first-none, none-both, recipe-numbered, size-numbered, picture-passed, answer-accepted, is-accepted, is-accepted-picture}
 use Rattle.laws.proofs.Counts.{same-balanced, balanced-same}
 use Rattle.laws.proofs.Sameness.{dot, counts-gain, counts-width, counts-height, counts-row, sums-counts}
-use Rattle.rows.specs.OnePass.{Bytes}
 use Rattle.equivalence.specs.declared.Comparison.{Comparison}
 use Rattle.equivalence.specs.declared.Comparison.the-variants as comparison
 use Rattle.equivalence.specs.Compared.{comparisonTold}
@@ -48,7 +47,7 @@ told-so (comparison.Refused n) b e = let z : _≡_ {A = ℕ} 0 1 = cc in absurd 
 -- ---- the counts and the pictures
 
 -- the single pixel is accepted with every accepted recipe
-dot-bytes : Bytes dot
+dot-bytes : Within largestGray dot
 dot-bytes zero = omega arith
 dot-bytes (suc k) = omega arith
 

@@ -21,7 +21,7 @@ use Rattle.equivalence.specs.Tally.{byte, tallyOf, Alike, Decides}
 use Rattle.laws.proofs.Lists.{getD-tab, total-most}
 use Rattle.laws.proofs.Kernels.{at, holds-tab}
 use Rattle.laws.proofs.Counts.{Balanced, occurs-none, occurs-here, occurs-other, struck-one, struck-other, everywhere-so, same-balanced, balanced-same}
-use Rattle.filter.proofs.Widths.{length-widths, widths-from}
+use Rattle.filter.proofs.Widths.{length-widths, widths-on}
 
 -- ---- the loop that counts the widths
 
@@ -37,18 +37,16 @@ occurs-most n ns = le-trans (total-most (λ x. cond (eqb x n) 1 0) 1 (λ x. once
 -- After i widths: those from place i on are still to be counted, and to be seen to be bytes.
 pub record Tallied (c : Cascade) (count : ℕ) (counts : List ℕ) (i : ℕ) : Type 0 where
   pub counted : count ≡ c .count
-  pub array : length (c .widths) ≡ 48
   pub inside : i ≤ count
   pub size : length counts ≡ 256
   pub is : (n : ℕ) → n < 256 → getD counts n 0 + occurs n (drop i (widths c)) ≡ occurs n (widths c)
   pub bytes : everywhere byte (drop i (widths c)) ≡ everywhere byte (widths c)
 
 module _ (c : Cascade) (count : ℕ) where
-  pub tallied-none : count ≡ c .count → length (c .widths) ≡ 48 → Tallied c count (replicate 256 0) 0
-  tallied-none e s =
+  pub tallied-none : count ≡ c .count → Tallied c count (replicate 256 0) 0
+  tallied-none e =
       record {
         counted = e;
-        array = s;
         inside = omega arith;
         size = length-replicate {A = ℕ} 256 0;
         is = λ n h. omega (arith, getD-replicate {A = ℕ} 256 n 0 0 h);
@@ -59,13 +57,12 @@ module _ (c : Cascade) (count : ℕ) where
     pub tally-small : c .count ≤ 48 → (n : ℕ) → n < 256 → getD counts n 0 ≤ 48
     tally-small k n l = omega (arith, t .is n l, occurs-most n (widths c), length-widths c)
 
-    pub tallied-more : i < count → c .count ≤ 48 → (n : ℕ) → n ≡ getD (c .widths) i 0 → n < 256
+    pub tallied-more : i < count → (n : ℕ) → n ≡ getD (widths c) i 0 → n < 256
         → Tallied c count (set counts n (getD counts n 0 + 1)) (i + 1)
     unfolding everywhere
-    tallied-more h k n e l =
+    tallied-more h n e l =
         record {
           counted = t .counted;
-          array = t .array;
           inside = omega arith;
           size = length-set counts n (getD counts n 0 + 1) ∙ t .size;
           is = λ m g. go m g (eqb n m) refl;
@@ -77,7 +74,7 @@ module _ (c : Cascade) (count : ℕ) where
       where
         -- the width that is counted, and those after it
         here : drop i (widths c) ≡ n ∷ drop (i + 1) (widths c)
-        here = widths-from c i k (t .array) (omega (arith, t .counted)) ∙ ap₂ (λ m j. m ∷ drop j (widths c)) (sym e) (sym (add-one i))
+        here = widths-on c i (omega (arith, t .counted)) ∙ ap₂ (λ m j. m ∷ drop j (widths c)) (sym e) (sym (add-one i))
 
         go : (m : ℕ) → m < 256 → (b : Bool) → eqb n m ≡ b
             → getD (set counts n (getD counts n 0 + 1)) m 0 + occurs m (drop (i + 1) (widths c)) ≡ occurs m (widths c)

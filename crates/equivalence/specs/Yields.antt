@@ -7,13 +7,13 @@ use lib.ListN.{length, getD}
 use Rattle.spec.specs.declared.Filter.{Filter}
 use Rattle.spec.specs.Words.{part}
 use Rattle.spec.specs.Recipe.{Recipe, recipe}
-use Rattle.spec.specs.Picture.{Picture, fullWidth, fullHeight, fullRow}
+use Rattle.spec.specs.Picture.{Picture, largestGray, Within, fullWidth, fullHeight, fullRow}
 use Rattle.spec.specs.Refusals.{first, recipeChecks, pictureChecks}
 use Rattle.direct.specs.Formed.{Formed}
 use Rattle.passes.specs.Passed.{Passed}
 use Rattle.stream.specs.Calls.{start}
 use Rattle.rows.specs.Runs.{Call, outputs}
-use Rattle.rows.specs.OnePass.{Bytes, acceptedCalls, FirstRows}
+use Rattle.rows.specs.OnePass.{acceptedCalls, FirstRows}
 
 -- a recipe to which none of 1 to 4 applies
 abbrev pub AcceptedRecipe : Recipe → Type 0
@@ -22,7 +22,7 @@ AcceptedRecipe r = first (recipeChecks r) ≡ 0
 -- a picture that is accepted with a recipe: none of 1 to 6 applies, and its pixels are bytes
 pub record AcceptedWith (r : Recipe) (p : Picture) : Type 0 where
   pub checked : first (pictureChecks r p) ≡ 0
-  pub bytes : Bytes p
+  pub bytes : Within largestGray p
 
 -- ---- the methods
 

@@ -11,6 +11,7 @@ ghost use Rattle.spec.specs.Refusals.{first, compareChecks};
 ghost use Rattle.equivalence.specs.Compared.{Compared};
 ghost use Rattle.equivalence.specs.Tally.{byte, tallyOf, Alike, Decides};
 use filter::check;
+use filter::width_at;
 use spec::Cascade;
 use spec::Filter;
 
@@ -36,7 +37,7 @@ fn tally(list: Cascade, counts: &mut [u8; 256])
     let count = list.count as usize;
     let mut i: usize = 0;
     while i < count {
-        let n = place(list.widths[i]);
+        let n = place(width_at(list.count, &list.widths, i));
         counts[n] += 1;
         i += 1;
     }

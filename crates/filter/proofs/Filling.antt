@@ -9,7 +9,7 @@ use native.Mathlib.Omega.{arith}
 use lib.ListN.{length}
 use borrow.Author.Tests.{eq-eqb, ne-eqb}
 use Rattle.spec.specs.Words.{tab, product}
-use Rattle.spec.specs.Recipe.{kernel, order, gain}
+use Rattle.spec.specs.Recipe.{kernel, order, weight, gain}
 use Rattle.spec.specs.Refusals.{first, alone, otherOutput, kernelChecks}
 use Rattle.laws.proofs.Kernels.{at, holds-tab, length-kernel}
 use Rattle.laws.proofs.Refusals.{lent-refused, lent-accepted}
@@ -31,11 +31,11 @@ module _ (ns old : List ℕ) (m : Measures) (s : m ≡ measured (alone ns)) wher
     list-known = known (alone ns) m s z
 
     -- the weight of the list
-    pub list-weight : (0 < product ns) × (product ns ≤ 2 ^ 44)
-    unfolding gain alone product
+    pub list-weight : (0 < weight ns) × (weight ns ≤ 2 ^ 44)
+    unfolding gain alone weight product
     list-weight =
         let k = list-known .accepted in
-        (omega (arith, k .notZero, mul-one (product ns)), omega (arith, k .light, mul-one (product ns)))
+        (omega (arith, k .notZero, mul-one (weight ns)), omega (arith, k .light, mul-one (weight ns)))
 
     -- 7 goes by the length of the slice
     by-length : first (kernelChecks ns (length old)) ≡ cond (otherOutput (length old) (order ns + 1)) 7 0

@@ -10,8 +10,7 @@ use native.Mathlib.Omega.{arith}
 use lib.Dec.{eqb, ltb}
 use borrow.Author.Tests.{lt-ltb, le-ltb, eq-eqb, ne-eqb, ltb-false}
 use Rattle.spec.specs.declared.Filter.{Filter}
-use Rattle.spec.specs.Words.{product}
-use Rattle.spec.specs.Recipe.{Recipe, recipe, widths, order, gain}
+use Rattle.spec.specs.Recipe.{Recipe, recipe, widths, order, weight, gain}
 use Rattle.spec.specs.Refusals.{tooLong, zeroWidth, tooFar, tooHeavy, Check, check, first, either, accepted, refused, answer, recipeChecks}
 use Rattle.laws.proofs.Lists.{length-part, product-zero}
 use Rattle.laws.proofs.Refusals.{Accepted, is-accepted, first-front, first-then, recipe-numbered, answer-refused, answer-accepted}
@@ -41,14 +40,14 @@ pub counts-short : (f : Filter) → f .rows .count ≤ 48 → f .columns .count 
 counts-short f g h = by-counts f ∙ ap₂ _||_ (le-ltb 48 (f .rows .count) g) (le-ltb 48 (f .columns .count) h)
 
 -- the weight, multiplied up over the rows and then over the columns
-pub gain-capped : (f : Filter) (a b : ℕ) → a ≡ min (1 * product (widths (f .rows))) (2 ^ 44 + 1)
-    → b ≡ min (a * product (widths (f .columns))) (2 ^ 44 + 1) → b ≡ min (gain (recipe f)) (2 ^ 44 + 1)
+pub gain-capped : (f : Filter) (a b : ℕ) → a ≡ min (1 * weight (widths (f .rows))) (2 ^ 44 + 1)
+    → b ≡ min (a * weight (widths (f .columns))) (2 ^ 44 + 1) → b ≡ min (gain (recipe f)) (2 ^ 44 + 1)
 unfolding gain recipe
 gain-capped f a b p q =
     q
-    ∙ ap (λ x. min (x * product (widths (f .columns))) (2 ^ 44 + 1)) p
-    ∙ cap-times (1 * product (widths (f .rows))) (product (widths (f .columns))) (2 ^ 44 + 1)
-    ∙ ap (λ x. min (x * product (widths (f .columns))) (2 ^ 44 + 1)) (one-mul (product (widths (f .rows))))
+    ∙ ap (λ x. min (x * weight (widths (f .columns))) (2 ^ 44 + 1)) p
+    ∙ cap-times (1 * weight (widths (f .rows))) (weight (widths (f .columns))) (2 ^ 44 + 1)
+    ∙ ap (λ x. min (x * weight (widths (f .columns))) (2 ^ 44 + 1)) (one-mul (weight (widths (f .rows))))
 
 -- a number of which the smaller of it and a larger limit is known
 zero-capped : (g w : ℕ) → g ≡ min w (2 ^ 44 + 1) → eqb w 0 ≡ eqb g 0
@@ -64,17 +63,17 @@ heavy-capped g w e =
 
 -- the first of 2 to 4 that holds, by the two reaches and the weight so held
 abbrev pub verdictOf : ℕ → ℕ → ℕ → ℕ
-verdictOf rowReach columnReach weight =
-    first (check (eqb weight 0) 2 ∷ check (ltb 255 rowReach || ltb 255 columnReach) 3 ∷ check (ltb (2 ^ 44) weight) 4 ∷ [])
+verdictOf rowReach columnReach held =
+    first (check (eqb held 0) 2 ∷ check (ltb 255 rowReach || ltb 255 columnReach) 3 ∷ check (ltb (2 ^ 44) held) 4 ∷ [])
 
 -- 2 to 4 go by the reaches and the weight so held
 pub short : (r : Recipe) (g : ℕ) → tooLong r ≡ false → g ≡ min (gain r) (2 ^ 44 + 1)
     → first (recipeChecks r) ≡ verdictOf (order (r .rows)) (order (r .columns)) g
-unfolding first recipeChecks check zeroWidth tooFar tooHeavy gain
+unfolding first recipeChecks check zeroWidth tooFar tooHeavy weight gain
 short r g e p =
     let zeros : zeroWidth r ≡ eqb g 0 =
     ap₂ _||_ (product-zero (r .rows)) (product-zero (r .columns))
-    ∙ zero-factor (product (r .rows)) (product (r .columns))
+    ∙ zero-factor (weight (r .rows)) (weight (r .columns))
     ∙ zero-capped g (gain r) p in
     rw (e, zeros, heavy-capped g (gain r) p) refl
 

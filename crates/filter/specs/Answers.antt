@@ -1,12 +1,9 @@
 -- What each case of each answer stands for: the values that document 01 names, or the number of a refusal.
-use Prim.Native.Nat.{ℕ}
 use Rattle.spec.specs.Picture.{Sides}
 use Rattle.spec.specs.Gray.{ScaleCard}
 use Rattle.spec.specs.Refusals.{Answer, accepted, refused}
 use Rattle.filter.specs.declared.sizes.FullSize.{FullSize}
 use Rattle.filter.specs.declared.sizes.FullSize.the-variants as size
-use Rattle.filter.specs.declared.sizes.Cells.{Cells}
-use Rattle.filter.specs.declared.sizes.Cells.the-variants as cells
 use Rattle.filter.specs.declared.card.Card.{Card}
 use Rattle.filter.specs.declared.card.Card.the-variants as card
 
@@ -14,11 +11,6 @@ use Rattle.filter.specs.declared.card.Card.the-variants as card
 abbrev pub sizeTold : FullSize → Answer Sides
 sizeTold (size.Sides w h) = accepted (record { width = w; height = h })
 sizeTold (size.Refused n) = refused n
-
--- the needed cells
-abbrev pub cellsTold : Cells → Answer ℕ
-cellsTold (cells.Needed n) = accepted n
-cellsTold (cells.Refused n) = refused n
 
 -- the scale card
 abbrev pub cardTold : Card → Answer ScaleCard

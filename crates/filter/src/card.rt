@@ -1,11 +1,12 @@
 // The scale card of a recipe: its weight, its reaches, and the variance on each axis.
 ghost use mathlib.Core.Path.{_≡_};
-ghost use Prim.Native.Nat.{_-_, _*_, _≤_, _<_, _^_};
+ghost use Prim.Native.Nat.{_*_, _≤_, _^_};
 ghost use Rattle.spec.specs.Recipe.{widths, recipe};
-ghost use Rattle.spec.specs.Gray.{ratio as ratioOf, squares as squaresOf, variance as varianceOf, scaleCard};
+ghost use Rattle.spec.specs.Gray.{ratio as ratioOf, boxSquare, squares as squaresOf, variance as varianceOf, scaleCard};
 ghost use Rattle.spec.specs.Refusals.{answer, recipeChecks};
 ghost use Rattle.filter.specs.Answers.{cardTold};
 use crate::checks::measure;
+use crate::lists::width_at;
 use spec::Cascade;
 use spec::Filter;
 
@@ -285,7 +286,7 @@ pub enum Card {
 
 // n * n - 1, from the table.
 fn square(n: u8) -> u64
-    ensures { λ r. ⌜ (r ≡ n * n - 1) × (r ≤ 65024) ⌝ }
+    ensures { λ r. ⌜ (r ≡ boxSquare n) × (r ≤ 65024) ⌝ }
 {
     if n == 0 {
         return 0;
@@ -303,7 +304,7 @@ fn squares(list: Cascade) -> u64
     let mut sum: u64 = 0;
     let mut i: usize = 0;
     while i < count {
-        sum += square(list.widths[i]);
+        sum += square(width_at(list.count, &list.widths, i));
         i += 1;
     }
     sum

@@ -2,12 +2,12 @@
 ghost use mathlib.Core.Path.{_≡_};
 ghost use mathlib.Core.Bool.{_||_};
 ghost use mathlib.Core.List.{[], _∷_};
-ghost use Prim.Native.Nat.{_+_, _-_, _*_, _^_, _≤_, min};
+ghost use Prim.Native.Nat.{_+_, _*_, _^_, _≤_, min};
 ghost use lib.Dec.{eqb, ltb};
-ghost use Rattle.spec.specs.Words.{product};
-ghost use Rattle.spec.specs.Recipe.{widths, recipe, order};
+ghost use Rattle.spec.specs.Recipe.{widths, recipe, boxOrder, order, weight};
 ghost use Rattle.spec.specs.Refusals.{check, first, recipeChecks};
 ghost use Rattle.filter.specs.Measured.{measured, refusedBy};
+use crate::lists::width_at;
 use spec::Cascade;
 use spec::Filter;
 
@@ -44,7 +44,7 @@ struct Extent {
 
 // The reach of one box.
 fn box_order(n: u8) -> usize
-    ensures { λ r. ⌜ (r ≡ n - 1) × (r ≤ 254) ⌝ }
+    ensures { λ r. ⌜ (r ≡ boxOrder n) × (r ≤ 254) ⌝ }
 {
     if n == 0 { 0 } else { n as usize - 1 }
 }
@@ -64,13 +64,13 @@ fn times(gain: u64, n: u8) -> u64
 
 fn survey(list: Cascade, gain: u64) -> Extent
     requires { ⌜ (list .count ≤ 48) × (gain ≤ 2 ^ 44 + 1) ⌝ }
-    ensures { λ r. ⌜ (r .order ≡ order (widths list)) × (r .gain ≡ min (gain * product (widths list)) (2 ^ 44 + 1)) ⌝ }
+    ensures { λ r. ⌜ (r .order ≡ order (widths list)) × (r .gain ≡ min (gain * weight (widths list)) (2 ^ 44 + 1)) ⌝ }
 {
     let count = list.count as usize;
     let mut found = Extent { order: 0, gain };
     let mut i: usize = 0;
     while i < count {
-        let n = list.widths[i];
+        let n = width_at(list.count, &list.widths, i);
         found.order += box_order(n);
         found.gain = times(found.gain, n);
         i += 1;

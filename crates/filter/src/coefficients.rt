@@ -4,12 +4,14 @@ ghost use mathlib.Core.Path.{_≡_};
 ghost use mathlib.Core.List.{[]};
 ghost use Prim.Native.Nat.{ℕ, _+_, _-_, _≤_, _<_, _^_};
 ghost use lib.ListN.{length};
-ghost use Rattle.spec.specs.Words.{sum, tab, product};
-ghost use Rattle.spec.specs.Recipe.{widths, kernel as kernelOf};
+ghost use Rattle.spec.specs.Words.{sum, tab};
+ghost use Rattle.spec.specs.Recipe.{widths, weight, kernel as kernelOf};
 ghost use Rattle.laws.proofs.Kernels.{at};
 ghost use Rattle.laws.proofs.Sequences.{running, behind};
 ghost use Rattle.filter.specs.Filled.{Filled};
 use crate::checks::measure;
+use crate::lists::width_at;
+use crate::zeros::no_filter;
 use spec::Cascade;
 use spec::Filter;
 
@@ -55,7 +57,7 @@ fn places(n: u8) -> usize
 
 // The coefficients of a cascade, box by box, as far as the slice goes.
 fn convolve(list: Cascade, out: &mut [u64])
-    requires { ⌜ (list .count ≤ 48) × (0 < product (widths list)) × (product (widths list) ≤ 2 ^ 44) ⌝ }
+    requires { ⌜ (list .count ≤ 48) × (0 < weight (widths list)) × (weight (widths list) ≤ 2 ^ 44) ⌝ }
     ensures { λ r. ⌜ now (out .exit) ≡ tab (length (now (out .entry))) (at (kernelOf (widths list))) ⌝ }
 {
     impulse(out);
@@ -63,7 +65,7 @@ fn convolve(list: Cascade, out: &mut [u64])
     while 0 < i {
         i -= 1;
         accumulate(out);
-        difference(out, places(list.widths[i]));
+        difference(out, places(width_at(list.count, &list.widths, i)));
     }
 }
 
@@ -72,13 +74,10 @@ fn convolve(list: Cascade, out: &mut [u64])
 pub fn kernel(list: Cascade, out: &mut [u64]) -> u8
     ensures { λ r. ⌜ Filled (widths list) (now (out .entry)) r (now (out .exit)) ⌝ }
 {
-    let none = Cascade {
-        count: 0,
-        widths: [0u8; 48],
-    };
+    let columns = no_filter().columns;
     let m = measure(Filter {
         rows: list,
-        columns: none,
+        columns,
     });
     let number = m.refusal;
     if number != 0 {

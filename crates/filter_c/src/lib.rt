@@ -15,8 +15,8 @@ use blocks::cascade_of;
 use blocks::filter_of;
 use equivalence::Comparison;
 use filter::Card;
-use filter::Cells;
 use filter::FullSize;
+use stream::Cells;
 
 // The checks of a recipe: 1 to 4.
 #[no_mangle]
@@ -68,7 +68,7 @@ pub extern "C" fn bore_stream_cells(block: &[u8; 98], width: usize, cells: &mut 
     ensures { λ r. let g = recipe (given (now (block .entry))) in let cs = cellChecks g width in
         ⌜ (r ≡ first cs) × (now (cells .exit) ≡ lent cs (streamCells g width) (now (cells .entry))) ⌝ }
 {
-    let answer = filter::stream_cells(filter_of(block), width);
+    let answer = stream::stream_cells(filter_of(block), width);
     match answer {
         Cells::Refused(number) => number,
         Cells::Needed(n) => {

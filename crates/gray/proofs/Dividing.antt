@@ -74,12 +74,11 @@ own-weight w by d = ap (λ (x : Divisor). x .weight) (d .is)
 pub divides-own : (w : ℕ) (by : Divisor) → Divides w by → Divides (by .weight) by
 divides-own w by d = subst (λ v. Divides v by) (sym (own-weight w by d)) d
 
--- a quotient that is a byte's grey
-pub rounded-gray : (w : ℕ) (by : Divisor) → Divides w by → (s q : ℕ) → s ≤ 255 * w → q ≡ quotient by s → (q ≡ gray w s) × (q ≤ 255)
-rounded-gray w by d s q bounded e =
-    let few : 255 ≤ 65535 = omega arith in
-    let is = e ∙ ap (λ (x : Divisor). quotient x s) (d .is) ∙ quotient-gray 255 w s (d .notZero) (d .light) few bounded in
-    (is, subst (λ x. x ≤ 255) (sym is) (gray-most 255 w s (d .notZero) (d .light) few bounded))
+-- a quotient that is a grey
+pub rounded-gray : (most w : ℕ) (by : Divisor) → Divides w by → most ≤ 65535 → (s q : ℕ) → s ≤ most * w → q ≡ quotient by s → (q ≡ gray w s) × (q ≤ most)
+rounded-gray most w by d few s q bounded e =
+    let is = e ∙ ap (λ (x : Divisor). quotient x s) (d .is) ∙ quotient-gray most w s (d .notZero) (d .light) few bounded in
+    (is, subst (λ x. x ≤ most) (sym is) (gray-most most w s (d .notZero) (d .light) few bounded))
 
 -- the nearest whole number, a half upwards, is rounded as a grey is
 pub nearest-gray : (m d : ℕ) → nearest m d ≡ gray d m

@@ -11,6 +11,7 @@ use lib.ListN.{length, getD, List·getD-eq-default}
 use borrow.Author.Tests.{ltb-false}
 use Rattle.spec.specs.Words.{tab}
 use Rattle.spec.specs.Recipe.{Recipe, gain}
+use Rattle.spec.specs.Picture.{largestGray}
 use Rattle.spec.specs.Gray.{gray, grays}
 use Rattle.spec.specs.Refusals.{check, first, otherOutput, tooBright, recipeChecks, roundChecks}
 use Rattle.laws.proofs.Lists.{tab-map, nowhere}
@@ -19,11 +20,11 @@ use Rattle.gray.specs.Division.{Bounded}
 use Rattle.gray.specs.Rounded.{Rounded}
 
 -- sums of which none is above the limit
-pub none-bright : (weight : ℕ) (sums : List ℕ) → tooBright weight sums ≡ false → Bounded weight sums
+pub none-bright : (most weight : ℕ) (sums : List ℕ) → tooBright most weight sums ≡ false → Bounded most weight sums
 unfolding tooBright
-none-bright weight sums e k =
+none-bright most weight sums e k =
     elim (decLt k (length sums)) [
-      | yes h ↦ ltb-false (255 * weight) (getD sums k 0) (nowhere (λ s. ltb (255 * weight) s) 0 sums e k h)
+      | yes h ↦ ltb-false (most * weight) (getD sums k 0) (nowhere (λ s. ltb (most * weight) s) 0 sums e k h)
       | no h ↦ omega (arith, past k (omega arith))
     ]
   where
@@ -36,16 +37,16 @@ module _ (r : Recipe) (sums out : List ℕ) where
 
   -- after 1 to 4
   module _ (none : first (recipeChecks r) ≡ 0) where
-    rest : number ≡ first (check (otherOutput (length out) (length sums)) 7 ∷ check (tooBright (gain r) sums) 11 ∷ [])
+    rest : number ≡ first (check (otherOutput (length out) (length sums)) 7 ∷ check (tooBright largestGray (gain r) sums) 11 ∷ [])
     unfolding roundChecks
     rest = first-rest (recipeChecks r) _ (recipe-numbered r) none
 
     pub by-length : (length out ≡ length sums → ⊥) → number ≡ 7
     by-length h = rest ∙ by-output _ (length out) (length sums) h
 
-    pub by-brightness : length out ≡ length sums → (b : Bool) → b ≡ tooBright (gain r) sums → number ≡ cond b 11 0
+    pub by-brightness : length out ≡ length sums → (b : Bool) → b ≡ tooBright largestGray (gain r) sums → number ≡ cond b 11 0
     unfolding first check
-    by-brightness e b h = rest ∙ after-output (check (tooBright (gain r) sums) 11 ∷ []) (length out) (length sums) e ∙ ap (λ y. cond y 11 0) (sym h)
+    by-brightness e b h = rest ∙ after-output (check (tooBright largestGray (gain r) sums) 11 ∷ []) (length out) (length sums) e ∙ ap (λ y. cond y 11 0) (sym h)
 
   -- on a refusal nothing is written; otherwise all greys are
   pub round-refused : (n : ℕ) → number ≡ n → (n ≡ 0 → ⊥) → Rounded r sums out n out

@@ -26,6 +26,6 @@ pub record Divides (weight : ℕ) (by : Divisor) : Type 0 where
   pub light : weight ≤ 2 ^ 44
   pub is : by ≡ divisor weight
 
--- sums that are rounded to a byte
-abbrev pub Bounded : ℕ → List ℕ → Type 0
-Bounded weight sums = (k : ℕ) → getD sums k 0 ≤ 255 * weight
+-- sums whose greys are at most a largest grey
+abbrev pub Bounded : ℕ → ℕ → List ℕ → Type 0
+Bounded most weight sums = (k : ℕ) → getD sums k 0 ≤ most * weight

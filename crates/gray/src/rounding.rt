@@ -4,6 +4,7 @@ ghost use lib.Dec.{ltb};
 ghost use lib.ListN.{length};
 ghost use Rattle.spec.specs.Words.{somewhere};
 ghost use Rattle.spec.specs.Recipe.{recipe};
+ghost use Rattle.spec.specs.Picture.{largestGray};
 ghost use Rattle.spec.specs.Gray.{grays};
 ghost use Rattle.gray.specs.Division.{divisor, quotient, Divides, Bounded};
 ghost use Rattle.gray.specs.Rounded.{Rounded};
@@ -48,7 +49,7 @@ pub fn rounded(sum: u64, by: Divisor) -> u64
 
 // The greys of a row of sums.
 pub(crate) fn round_row(by: Divisor, sums: &[u64], out: &mut [u8])
-    requires { ⌜ Divides (by .weight) by × Bounded (by .weight) (now sums) × (length (now sums) ≡ length (now out)) ⌝ }
+    requires { ⌜ Divides (by .weight) by × Bounded largestGray (by .weight) (now sums) × (length (now sums) ≡ length (now out)) ⌝ }
     ensures { λ r. ⌜ now (out .exit) ≡ grays (by .weight) (now (sums .entry)) ⌝ }
 {
     for k in 0..out.len() {

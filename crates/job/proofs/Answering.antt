@@ -19,7 +19,7 @@ use Rattle.laws.proofs.Refusals.{Sized, lent-refused, lent-accepted, first-fron
 use Rattle.laws.proofs.Numbers.{neither}
 use Rattle.filter.proofs.Widths.{length-widths}
 use Rattle.job.specs.Answers.{noJob, jobTold, jobRead}
-use Rattle.job.specs.Written.{Written}
+use Rattle.job.specs.Writing.{JobWritten}
 use Rattle.job.specs.Private.{restChecks, restRead}
 
 -- how many pixels there can be
@@ -35,15 +35,15 @@ length-by-counts f w h = sym (ap₂ (λ a b. 11 + a + b + w * h) (length-widths 
 
 -- by the recipe and the sides, by the pixels, by the output, or all is written
 module _ (r : Recipe) (p : Picture) (out : List ℕ) where
-  not-written : (n : ℕ) → first (writeChecks r p (length out)) ≡ n → (n ≡ 0 → ⊥) → Written r p out n out
+  not-written : (n : ℕ) → first (writeChecks r p (length out)) ≡ n → (n ≡ 0 → ⊥) → JobWritten r p out n out
   not-written n e h = record { answer = sym e; bytes = sym (lent-refused _ _ out n e h) }
 
-  pub by-sides : (n : ℕ) → first (sizeChecks r (p .width) (p .height)) ≡ n → (n ≡ 0 → ⊥) → Written r p out n out
+  pub by-sides : (n : ℕ) → first (sizeChecks r (p .width) (p .height)) ≡ n → (n ≡ 0 → ⊥) → JobWritten r p out n out
   unfolding writeChecks
   by-sides n e h = not-written n (picture-sides r p _ n e h) h
 
   module _ (z : first (sizeChecks r (p .width) (p .height)) ≡ 0) where
-    pub by-pixels : (length (p .pixels) ≡ p .width * p .height → ⊥) → Written r p out 6 out
+    pub by-pixels : (length (p .pixels) ≡ p .width * p .height → ⊥) → JobWritten r p out 6 out
     unfolding writeChecks
     by-pixels h = not-written 6 (picture-pixels r p _ z h) (λ q. omega arith)
 
@@ -52,10 +52,10 @@ module _ (r : Recipe) (p : Picture) (out : List ℕ) where
       unfolding writeChecks
       last = picture-rest r p _ z e
 
-      pub by-length : (length out ≡ jobLength r (p .width) (p .height) → ⊥) → Written r p out 7 out
+      pub by-length : (length out ≡ jobLength r (p .width) (p .height) → ⊥) → JobWritten r p out 7 out
       by-length h = not-written 7 (last ∙ by-output [] (length out) _ h) (λ q. omega arith)
 
-      pub all-written : length out ≡ jobLength r (p .width) (p .height) → (new : List ℕ) → new ≡ jobBytes r p → Written r p out 0 new
+      pub all-written : length out ≡ jobLength r (p .width) (p .height) → (new : List ℕ) → new ≡ jobBytes r p → JobWritten r p out 0 new
       unfolding first
       all-written l new m =
           let none = last ∙ after-output [] (length out) _ l in

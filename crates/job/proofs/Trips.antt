@@ -20,15 +20,15 @@ use Rattle.laws.proofs.Numbers.{neither, both}
 use Rattle.laws.proofs.Refusals.{Sized, lent-accepted, none-both, first-none, size-numbered, picture-numbered, is-sized, is-accepted-picture, first-rest, after-output, picture-passed, same-length-so}
 use Rattle.job.specs.declared.reading.Job.{Job}
 use Rattle.job.specs.Answers.{noJob, jobTold, jobRead}
-use Rattle.job.specs.Written.{Written}
-use Rattle.job.specs.RoundTrip.{Same, readPicture, Bytes, ReadBack, WrittenAgain}
+use Rattle.job.specs.Writing.{JobWritten}
+use Rattle.job.specs.RoundTrip.{Same, readPicture, FileBytes, ReadBack, WrittenAgain}
 use Rattle.job.proofs.Holding.{held-recipe}
 use Rattle.job.proofs.Answering.{job-length, by-rest, rest-all}
 
 -- ---- what is accepted is written
 
 writes : (r : Recipe) (p : Picture) (out new : List ℕ) (number : ℕ) → first (pictureChecks r p) ≡ 0 → length out ≡ jobLength r (p .width) (p .height)
-    → Written r p out number new → (number ≡ 0) × (new ≡ jobBytes r p)
+    → JobWritten r p out number new → (number ≡ 0) × (new ≡ jobBytes r p)
 unfolding writeChecks first
 writes r p out new number z e w =
     let none : first (writeChecks r p (length out)) ≡ 0 =
@@ -182,7 +182,7 @@ split from n xs h =
     sym (take-append-drop n (drop from xs)) ∙ ap₂ _++_ (sym (part-within from n xs h)) (drop-drop n from xs)
 
 -- two bytes are the number that is read there, low byte first
-pair : (bytes : List ℕ) → Bytes bytes → (k : ℕ) → part k 2 bytes ≡ low16 (read16 bytes k)
+pair : (bytes : List ℕ) → FileBytes bytes → (k : ℕ) → part k 2 bytes ≡ low16 (read16 bytes k)
 unfolding part tab read16
 pair bytes b k =
     let here : k + 0 ≡ k = omega arith in
@@ -190,7 +190,7 @@ pair bytes b k =
     ∙ sym (read-low16 (getD bytes k 0) (getD bytes (k + 1) 0) (b k) (b (k + 1)))
 
 -- mark and version are those of the definition
-head-is : (bytes : List ℕ) → Bytes bytes → badHead bytes ≡ false → (part 0 3 bytes ≡ mark) × (part 3 2 bytes ≡ low16 version)
+head-is : (bytes : List ℕ) → FileBytes bytes → badHead bytes ≡ false → (part 0 3 bytes ≡ mark) × (part 3 2 bytes ≡ low16 version)
 unfolding badHead part tab mark version
 head-is bytes b e =
     let version-wrong = neither _ (not (eqb (read16 bytes 3) 1)) e in
@@ -223,7 +223,7 @@ is-accepted bytes e =
       total = same-length-so (length bytes) _ (five .0) ∙ job-length bytes (jobWidth bytes) (jobHeight bytes);
     }
 
-module _ (bytes : List ℕ) (b : Bytes bytes) (k : Accepted bytes) where
+module _ (bytes : List ℕ) (b : FileBytes bytes) (k : Accepted bytes) where
   abbrev m : ℕ
   m = getD bytes 5 0
 
@@ -286,6 +286,6 @@ written-again bytes b z out new number e w =
     let long = e ∙ k .total ∙ sym (job-length bytes (jobWidth bytes) (jobHeight bytes)) in
     let done =
     writes (jobRecipe bytes) (jobPicture bytes) out new number (picture-accepted bytes b k) long
-    (subst (λ (p : Picture). Written (jobRecipe bytes) p out number new) seen
-    (subst (λ (r : Recipe). Written r (readPicture (jobRead bytes) bytes) out number new) lists w)) in
+    (subst (λ (p : Picture). JobWritten (jobRecipe bytes) p out number new) seen
+    (subst (λ (r : Recipe). JobWritten r (readPicture (jobRead bytes) bytes) out number new) lists w)) in
     (done .0, done .1 ∙ same-bytes bytes b k)

@@ -1,26 +1,16 @@
 -- What reading a job returns, and what each case of a job's length stands for.
-use mathlib.Core.List.{List, _++_}
-use Prim.Native.Nat.{ℕ, _-_}
-use lib.ListN.{length, replicate}
-use Rattle.spec.specs.declared.Cascade.{Cascade}
-use Rattle.spec.specs.declared.Filter.{Filter}
-use Rattle.spec.specs.Recipe.{Recipe, noWidths}
+use mathlib.Core.List.{List}
+use Prim.Native.Nat.{ℕ}
+use Rattle.spec.specs.Recipe.{heldFilter, noFilter}
 use Rattle.spec.specs.Job.{jobRecipe, jobWidth, jobHeight, jobOffset}
 use Rattle.spec.specs.Refusals.{Answer, accepted, refused, first, lent, jobChecks}
 use Rattle.job.specs.declared.reading.Job.{Job}
 use Rattle.job.specs.declared.writing.FileSize.{FileSize}
 use Rattle.job.specs.declared.writing.FileSize.the-variants as size
 
--- a list as a cascade holds it: its count, its widths, and zeros past them
-unfoldable pub held : List ℕ → Cascade
-held ns = record { count = length ns; widths = ns ++ replicate (48 - length ns) 0 }
-
-unfoldable pub heldFilter : Recipe → Filter
-heldFilter r = record { rows = held (r .rows); columns = held (r .columns) }
-
 -- a refused job: its number, and all else zero
 abbrev pub noJob : ℕ → Job
-noJob n = record { refusal = n; filter = record { rows = noWidths; columns = noWidths }; width = 0; height = 0; offset = 0 }
+noJob n = record { refusal = n; filter = noFilter; width = 0; height = 0; offset = 0 }
 
 -- what a file says
 unfoldable pub jobTold : List ℕ → Job

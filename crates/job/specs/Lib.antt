@@ -1,4 +1,4 @@
 pub mod Answers
-pub mod Written
+pub mod Writing
 pub mod RoundTrip
 pub mod Private

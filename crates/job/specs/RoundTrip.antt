@@ -10,7 +10,7 @@ use Rattle.spec.specs.Job.{jobLength}
 use Rattle.spec.specs.Refusals.{first, pictureChecks}
 use Rattle.job.specs.declared.reading.Job.{Job}
 use Rattle.job.specs.Answers.{jobRead}
-use Rattle.job.specs.Written.{Written}
+use Rattle.job.specs.Writing.{JobWritten}
 
 -- the picture of a job that was read from a file: its pixels begin at the offset
 unfoldable pub readPicture : Job → List ℕ → Picture
@@ -26,17 +26,17 @@ pub record Same (r : Recipe) (p : Picture) (file : List ℕ) (j : Job) : Type 0 
 abbrev pub ReadBack : Type 0
 ReadBack =
     (r : Recipe) (p : Picture) → first (pictureChecks r p) ≡ 0
-    → (out new : List ℕ) (number : ℕ) → length out ≡ jobLength r (p .width) (p .height) → Written r p out number new
+    → (out new : List ℕ) (number : ℕ) → length out ≡ jobLength r (p .width) (p .height) → JobWritten r p out number new
     → (number ≡ 0) × Same r p new (jobRead new)
 
 -- a file is a list of bytes
-abbrev pub Bytes : List ℕ → Type 0
-Bytes file = (k : ℕ) → getD file k 0 ≤ 255
+abbrev pub FileBytes : List ℕ → Type 0
+FileBytes file = (k : ℕ) → getD file k 0 ≤ 255
 
 -- Every accepted file is written again, from what was read, into an output of its length, with the same bytes.
 abbrev pub WrittenAgain : Type 0
 WrittenAgain =
-    (file : List ℕ) → Bytes file → jobRead file .refusal ≡ 0
+    (file : List ℕ) → FileBytes file → jobRead file .refusal ≡ 0
     → (out new : List ℕ) (number : ℕ) → length out ≡ length file
-    → Written (recipe (jobRead file .filter)) (readPicture (jobRead file) file) out number new
+    → JobWritten (recipe (jobRead file .filter)) (readPicture (jobRead file) file) out number new
     → (number ≡ 0) × (new ≡ file)

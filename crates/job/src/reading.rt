@@ -5,12 +5,14 @@ ghost use Prim.Native.Nat.{_+_, _≤_, _<_};
 ghost use lib.Dec.{ltb};
 ghost use lib.ListN.{length};
 ghost use Rattle.spec.specs.Words.{part};
+ghost use Rattle.spec.specs.Recipe.{held};
 ghost use Rattle.spec.specs.Job.{read16 as read16Of};
 ghost use Rattle.spec.specs.Refusals.{badHead};
-ghost use Rattle.job.specs.Answers.{held, noJob, jobRead};
+ghost use Rattle.job.specs.Answers.{noJob, jobRead};
 ghost use Rattle.job.specs.Private.{Whole, restRead};
 use filter::FullSize;
 use filter::full_size;
+use filter::no_filter;
 use spec::Cascade;
 use spec::Filter;
 
@@ -28,16 +30,9 @@ pub struct Job {
 fn no_job(number: u8) -> Job
     ensures { λ r. ⌜ r ≡ noJob number ⌝ }
 {
-    let none = Cascade {
-        count: 0,
-        widths: [0u8; 48],
-    };
     Job {
         refusal: number,
-        filter: Filter {
-            rows: none,
-            columns: none,
-        },
+        filter: no_filter(),
         width: 0,
         height: 0,
         offset: 0,

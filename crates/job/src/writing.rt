@@ -7,7 +7,7 @@ ghost use Rattle.spec.specs.Picture.{picture};
 ghost use Rattle.spec.specs.Job.{jobBytes, jobLength};
 ghost use Rattle.spec.specs.Refusals.{first, answer, sizeChecks, pictureChecks};
 ghost use Rattle.job.specs.Answers.{sizeTold};
-ghost use Rattle.job.specs.Written.{Written};
+ghost use Rattle.job.specs.Writing.{JobWritten};
 ghost use Rattle.job.specs.Private.{Appended};
 use bytes::copy;
 use filter::FullSize;
@@ -87,7 +87,7 @@ fn fill(filter: Filter, width: usize, height: usize, pixels: &[u8], out: &mut [u
 // Writes the job of a recipe and a picture: refused by 1 to 7.
 pub fn write(filter: Filter, width: usize, height: usize, pixels: &[u8], out: &mut [u8]) -> u8
     ensures { λ r. let p = picture width height (now (pixels .entry)) in
-        ⌜ Written (recipe filter) p (now (out .entry)) r (now (out .exit)) ⌝ }
+        ⌜ JobWritten (recipe filter) p (now (out .entry)) r (now (out .exit)) ⌝ }
 {
     let answer = size(filter, width, height);
     match answer {

@@ -7,7 +7,7 @@ ghost use Rattle.spec.specs.Picture.{picture};
 ghost use Rattle.spec.specs.Job.{jobLength};
 ghost use Rattle.spec.specs.Refusals.{first, lent, sizeChecks};
 ghost use Rattle.job.specs.Answers.{jobRead};
-ghost use Rattle.job.specs.Written.{Written};
+ghost use Rattle.job.specs.Writing.{JobWritten};
 ghost use Rattle.blocks.specs.Given.{given};
 ghost use Rattle.job_c.specs.Jobs.{givenJob};
 use blocks::filter_of;
@@ -56,7 +56,7 @@ pub extern "C" fn bore_write_job(
     pixels: &[u8],
     out: &mut [u8],
 ) -> u8
-    ensures { λ r. ⌜ Written (recipe (given (now (block .entry)))) (picture width height (now (pixels .entry))) (now (out .entry)) r (now (out .exit)) ⌝ }
+    ensures { λ r. ⌜ JobWritten (recipe (given (now (block .entry)))) (picture width height (now (pixels .entry))) (now (out .entry)) r (now (out .exit)) ⌝ }
 {
     let filter = filter_of(block);
     job::write(filter, width, height, pixels, out)

@@ -8,8 +8,8 @@ use native.Mathlib.Nat.{le-refl, le-trans, mul-zero, zero-mul, one-mul, mul-one,
 use native.Mathlib.Decide.{decLe}
 use native.Mathlib.Omega.{arith}
 use lib.ListN.{List·getD-eq-default}
-use Rattle.spec.specs.Words.{sum, product}
-use Rattle.spec.specs.Recipe.{kernel, order}
+use Rattle.spec.specs.Words.{sum}
+use Rattle.spec.specs.Recipe.{kernel, order, weight}
 use Rattle.laws.proofs.Sums.{sum-agree, sum-zero, sum-first, sum-split, sum-swap}
 use Rattle.laws.proofs.Lists.{first-pos, rest-pos}
 use Rattle.laws.proofs.Sequences.{behind, boxed, behind-zero, behind-within, behind-before, behind-agree}
@@ -118,8 +118,8 @@ spread-grows s zero f k h = omega arith
 spread-grows s (suc n) f k h =
     omega (arith, sum-first (λ a. behind f (a * s) k) n, ap (λ b. behind f b k) (zero-mul s), behind-zero f k)
 
-pub cascaded-grows : (s : ℕ) (ns : List ℕ) (f : ℕ → ℕ) (k : ℕ) → 0 < product ns → f k ≤ cascaded s ns f k
-unfolding cascaded
+pub cascaded-grows : (s : ℕ) (ns : List ℕ) (f : ℕ → ℕ) (k : ℕ) → 0 < weight ns → f k ≤ cascaded s ns f k
+unfolding cascaded weight
 cascaded-grows s [] f k h = le-refl (f k)
 cascaded-grows s (n ∷ ns) f k h =
     le-trans (spread-grows s n f k (first-pos n ns h)) (cascaded-grows s ns (spread s n f) k (rest-pos n ns h))
@@ -137,7 +137,7 @@ conv-short f g m k z =
     ∙ omega (arith, sum-split (λ a. f a * behind g a k) (suc m) k, past)
 
 -- coefficients are 0 past the reach
-pub kernel-short : (ns : List ℕ) → 0 < product ns → (a : ℕ) → order ns < a → at (kernel ns) a ≡ 0
+pub kernel-short : (ns : List ℕ) → 0 < weight ns → (a : ℕ) → order ns < a → at (kernel ns) a ≡ 0
 unfolding at
 kernel-short ns h a l = List·getD-eq-default (kernel ns) 0 (omega (arith, length-kernel ns h))
 

@@ -11,8 +11,8 @@ use native.Mathlib.Omega.{arith}
 use lib.Dec.{leb, ltb}
 use lib.ListN.{length, getD}
 use borrow.Author.Tests.{lt-ltb, le-ltb}
-use Rattle.spec.specs.Words.{sum, product}
-use Rattle.spec.specs.Recipe.{Recipe, kernel, order, gain}
+use Rattle.spec.specs.Words.{sum}
+use Rattle.spec.specs.Recipe.{Recipe, kernel, order, weight, gain}
 use Rattle.spec.specs.Picture.{Picture, pixel, pixelBack, exact, fullWidth, fullHeight, fullRow, full}
 use Rattle.laws.proofs.Sums.{sum-agree, sum-le, sum-scale, sum-swap}
 use Rattle.laws.proofs.Lists.{factor-pos}
@@ -44,13 +44,13 @@ unfoldable pub line : Picture → ℕ → ℕ → ℕ
 line p j i = pixel p i j
 
 -- the two parts of a weight that is not 0
-pub rows-pos : (r : Recipe) → 0 < gain r → 0 < product (r .rows)
+pub rows-pos : (r : Recipe) → 0 < gain r → 0 < weight (r .rows)
 unfolding gain
-rows-pos r h = factor-pos (product (r .columns)) (product (r .rows)) (rw (mul-comm (product (r .columns)) (product (r .rows))) h)
+rows-pos r h = factor-pos (weight (r .columns)) (weight (r .rows)) (rw (mul-comm (weight (r .columns)) (weight (r .rows))) h)
 
-pub columns-pos : (r : Recipe) → 0 < gain r → 0 < product (r .columns)
+pub columns-pos : (r : Recipe) → 0 < gain r → 0 < weight (r .columns)
 unfolding gain
-columns-pos r h = factor-pos (product (r .rows)) (product (r .columns)) h
+columns-pos r h = factor-pos (weight (r .rows)) (weight (r .columns)) h
 
 module _ (r : Recipe) (p : Picture) where
   -- row j through the row coefficients, at i
@@ -117,14 +117,14 @@ module _ (r : Recipe) (p : Picture) where
         ]
 
     -- coefficients times values of at most so much
-    weighed : (ns : List ℕ) (m b : ℕ) (f : ℕ → ℕ) → ((a : ℕ) → f a ≤ b) → sum m (λ a. at (kernel ns) a * f a) ≤ b * product ns
+    weighed : (ns : List ℕ) (m b : ℕ) (f : ℕ → ℕ) → ((a : ℕ) → f a ≤ b) → sum m (λ a. at (kernel ns) a * f a) ≤ b * weight ns
     weighed ns m b f h =
         le-trans
         (sum-le (λ a. at (kernel ns) a * f a) (λ a. b * at (kernel ns) a) m
         (λ a l. le-trans (mul-le-mul-left (at (kernel ns) a) (h a)) (le-of-eq (mul-comm (at (kernel ns) a) b))))
         (le-trans (le-of-eq (sum-scale (at (kernel ns)) b m)) (mul-le-mul-left b (kernel-sum ns m)))
 
-    pub across-small : (i j : ℕ) → across i j ≤ most * product (r .rows)
+    pub across-small : (i j : ℕ) → across i j ≤ most * weight (r .rows)
     unfolding across line
     across-small i j =
         weighed (r .rows) (suc (order (r .rows))) most (λ a. behind (line p j) a i)
@@ -135,9 +135,9 @@ module _ (r : Recipe) (p : Picture) where
     exact-small i j =
         le-trans (le-of-eq (exact-down i j))
         (le-trans
-        (weighed (r .columns) (suc (order (r .columns))) (most * product (r .rows)) (λ b. behind (across i) b j)
-        (λ b. behind-small (across i) (most * product (r .rows)) (across-small i) b j))
-        (le-of-eq (mul-assoc most (product (r .rows)) (product (r .columns)))))
+        (weighed (r .columns) (suc (order (r .columns))) (most * weight (r .rows)) (λ b. behind (across i) b j)
+        (λ b. behind-small (across i) (most * weight (r .rows)) (across-small i) b j))
+        (le-of-eq (mul-assoc most (weight (r .rows)) (weight (r .columns)))))
 
 -- all grown rows: their length, and the exact sum at each place
 pub length-full : (r : Recipe) (p : Picture) → length (full r p) ≡ fullHeight r (p .height) * fullWidth r (p .width)

@@ -9,7 +9,7 @@ use native.Mathlib.Omega.{arith}
 use lib.ListN.{length, getD, replicate, length-replicate, getD-replicate, List·getD-eq-default}
 use borrow.Author.Tests.{lt-ltb, le-ltb}
 use Rattle.spec.specs.Words.{sum, tab, total, product}
-use Rattle.spec.specs.Recipe.{box, convolve, kernel, order}
+use Rattle.spec.specs.Recipe.{box, convolve, kernel, boxOrder, order, weight}
 use Rattle.laws.proofs.Sums.{sum-agree, sum-first, sum-zero}
 use Rattle.laws.proofs.Lists.{length-tab, getD-tab, getD-tab-past, tab-getD, tab-agree, factor-pos}
 use Rattle.laws.proofs.Sequences.{behind, boxed, running, boxed-running, boxed-sum, behind-agree, running-agree}
@@ -62,9 +62,9 @@ unfolding kernel at sum
 impulse-sum zero = omega arith
 impulse-sum (suc m) = omega (arith, sum-first (at (kernel [])) m, sum-zero m)
 
--- coefficients add up to the product of the widths at most
-pub kernel-sum : (ns : List ℕ) (m : ℕ) → sum m (at (kernel ns)) ≤ product ns
-unfolding product
+-- coefficients add up to the weight at most
+pub kernel-sum : (ns : List ℕ) (m : ℕ) → sum m (at (kernel ns)) ≤ weight ns
+unfolding weight product
 kernel-sum [] m = impulse-sum m
 kernel-sum (n ∷ ns) m =
     le-trans (le-of-eq (sum-agree (at (kernel (n ∷ ns))) (boxed n (at (kernel ns))) m (λ k h. at-kernel n ns k)))
@@ -79,8 +79,8 @@ unfolding convolve
 length-convolve p q = length-tab _ _
 
 -- as many coefficients as the reach and one
-pub length-kernel : (ns : List ℕ) → 0 < product ns → length (kernel ns) ≡ order ns + 1
-unfolding kernel order total product
+pub length-kernel : (ns : List ℕ) → 0 < weight ns → length (kernel ns) ≡ order ns + 1
+unfolding kernel boxOrder order total weight product
 length-kernel [] h = refl
 length-kernel (zero ∷ ns) h = omega (arith, zero-mul (product ns))
 length-kernel (suc n ∷ ns) h =

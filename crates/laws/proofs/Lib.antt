@@ -12,4 +12,5 @@ pub mod Counts
 pub mod Integrators
 pub mod Spreads
 pub mod Exact
+pub mod Ranges
 pub mod Sameness

@@ -9,8 +9,7 @@ use native.Mathlib.Omega.{arith}
 use lib.Dec.{eqb, ltb}
 use lib.ListN.{length, take, drop}
 use borrow.Author.Tests.{lt-ltb, le-ltb, eq-eqb, ne-eqb, ltb-false, eqb-false, eqb-true}
-use Rattle.spec.specs.Words.{product}
-use Rattle.spec.specs.Recipe.{Recipe, order, gain}
+use Rattle.spec.specs.Recipe.{Recipe, order, weight, gain}
 use Rattle.spec.specs.Picture.{Picture, fullWidth, fullHeight}
 use Rattle.spec.specs.Refusals.{Check, check, first, either, accepted, refused, answer, lent, badSide, badSides, otherPixels, otherOutput, tooFewCells, Written, tooLong, zeroWidth, tooFar, tooHeavy, recipeChecks, sizeChecks, pictureChecks}
 use Rattle.laws.proofs.Lists.{product-zero}
@@ -103,7 +102,7 @@ pub record Accepted (r : Recipe) : Type 0 where
   pub light : gain r ≤ 2 ^ 44
 
 pub is-accepted : (r : Recipe) → first (recipeChecks r) ≡ 0 → Accepted r
-unfolding recipeChecks tooLong zeroWidth tooFar tooHeavy gain
+unfolding recipeChecks tooLong zeroWidth tooFar tooHeavy weight gain
 is-accepted r e =
     let one = first-none (tooLong r) 0 _ e in
     let two = first-none (zeroWidth r) 1 _ (one .1) in
@@ -111,12 +110,12 @@ is-accepted r e =
     let four = first-none (tooHeavy r) 3 _ (three .1) in
     let lengths = neither (ltb 48 (length (r .rows))) (ltb 48 (length (r .columns))) (one .0) in
     let reaches = neither (ltb 255 (order (r .rows))) (ltb 255 (order (r .columns))) (three .0) in
-    let zeros : eqb (product (r .rows) * product (r .columns)) 0 ≡ false =
-    sym (ap₂ _||_ (product-zero (r .rows)) (product-zero (r .columns)) ∙ zero-factor (product (r .rows)) (product (r .columns))) ∙ two .0 in
+    let zeros : eqb (weight (r .rows) * weight (r .columns)) 0 ≡ false =
+    sym (ap₂ _||_ (product-zero (r .rows)) (product-zero (r .columns)) ∙ zero-factor (weight (r .rows)) (weight (r .columns))) ∙ two .0 in
     record {
       rowsShort = ltb-false 48 (length (r .rows)) (lengths .0);
       columnsShort = ltb-false 48 (length (r .columns)) (lengths .1);
-      notZero = pos-of-ne-zero (eqb-false (product (r .rows) * product (r .columns)) 0 zeros);
+      notZero = pos-of-ne-zero (eqb-false (weight (r .rows) * weight (r .columns)) 0 zeros);
       rowReach = ltb-false 255 (order (r .rows)) (reaches .0);
       columnReach = ltb-false 255 (order (r .columns)) (reaches .1);
       light = ltb-false (2 ^ 44) (gain r) (four .0);
@@ -224,12 +223,12 @@ module _ (r : Recipe) (p : Picture) where
       → first (pictureChecks r p ++ ds) ≡ first ds
   picture-rest ds z e = first-rest (pictureChecks r p) ds (picture-numbered r p) (picture-passed z e)
 
--- a call that makes a list: on a refusal nothing is written; otherwise all is
-module _ {A : Type 0} (cs : List Check) (made : List A) (needed : ℕ) (out : List A) (cells : List ℕ) where
+-- a call that makes something: on a refusal nothing is written; otherwise all is
+module _ {A : Type 0} (cs : List Check) (made : A) (needed : ℕ) (out : A) (cells : List ℕ) where
   pub written-not : (n : ℕ) → first cs ≡ n → (n ≡ 0 → ⊥) → Written cs made needed out cells n out cells
   written-not n e h = record { answer = sym e; output = sym (lent-refused cs _ out n e h); work = sym (lent-refused cs _ cells n e h); count = refl }
 
-  pub written-all : first cs ≡ 0 → (newOut : List A) (newCells : List ℕ) → newOut ≡ made → newCells ≡ take needed newCells ++ drop needed cells
+  pub written-all : first cs ≡ 0 → (newOut : A) (newCells : List ℕ) → newOut ≡ made → newCells ≡ take needed newCells ++ drop needed cells
       → length newCells ≡ length cells → Written cs made needed out cells 0 newOut newCells
   written-all e newOut newCells m w n =
       record { answer = sym e; output = m ∙ sym (lent-accepted cs made out e); work = w ∙ sym (lent-accepted cs _ cells e); count = n }

@@ -13,7 +13,7 @@ use lib.Dec.{eqb}
 use lib.ListN.{length, replicate}
 use borrow.Author.Tests.{eqb-true, eqb-false}
 use Rattle.spec.specs.Words.{sum, tab, total, product, occurs}
-use Rattle.spec.specs.Recipe.{Recipe, kernel, order, gain}
+use Rattle.spec.specs.Recipe.{Recipe, kernel, boxOrder, order, weight, gain}
 use Rattle.spec.specs.Picture.{Picture, picture, fullWidth, fullHeight, pixel, pixelBack, exact, fullRow}
 use Rattle.spec.specs.Same.{struck}
 use Rattle.laws.proofs.Sums.{sum-agree, sum-first, sum-zero}
@@ -116,8 +116,9 @@ plain-kernel ns k =
     ∙ conv-comm (at (kernel ns)) (at (kernel [])) k
     ∙ conv-impulse (at (kernel ns)) k
 
-module _ (ns ms : List ℕ) (p : 0 < product ns) (q : 0 < product ms) where
+module _ (ns ms : List ℕ) (p : 0 < weight ns) (q : 0 < weight ms) where
   law : ((k : ℕ) → boxes (plain ns) (at (kernel [])) k ≡ boxes (plain ms) (at (kernel [])) k) ↔ Balance (plain ns) (plain ms)
+  unfolding weight
   law = kernels-same (plain ns) (plain ms) (le-trans p (le-of-eq (ap product (sym (plain-ends ns))))) (le-trans q (le-of-eq (ap product (sym (plain-ends ms)))))
 
   kernels-counts : ((k : ℕ) → at (kernel ns) k ≡ at (kernel ms) k) → Balanced (struck ns) (struck ms)
@@ -129,14 +130,15 @@ module _ (ns ms : List ℕ) (p : 0 < product ns) (q : 0 < product ms) where
 -- so do the reach and the weight
 module _ (ns ms : List ℕ) (b : Balanced (struck ns) (struck ms)) where
   counts-order : order ns ≡ order ms
-  unfolding order
+  unfolding boxOrder order
   counts-order =
-      sym (struck-total (λ n. n - 1) refl ns)
-      ∙ total-order (λ n. n - 1) (balanced-order (struck ns) (struck ms) b)
-      ∙ struck-total (λ n. n - 1) refl ms
+      sym (struck-total boxOrder refl ns)
+      ∙ total-order boxOrder (balanced-order (struck ns) (struck ms) b)
+      ∙ struck-total boxOrder refl ms
 
-  counts-product : product ns ≡ product ms
-  counts-product = sym (struck-product ns) ∙ product-order (balanced-order (struck ns) (struck ms) b) ∙ struck-product ms
+  counts-weight : weight ns ≡ weight ms
+  unfolding weight
+  counts-weight = sym (struck-product ns) ∙ product-order (balanced-order (struck ns) (struck ms) b) ∙ struck-product ms
 
 -- ---- the exact sums
 
@@ -186,13 +188,14 @@ boxed-first (suc n) f h =
       sum-zero n,
     )
 
-kernel-first : (ns : List ℕ) → 0 < product ns → at (kernel ns) 0 ≡ 1
+kernel-first : (ns : List ℕ) → 0 < weight ns → at (kernel ns) 0 ≡ 1
+unfolding weight
 kernel-first [] h = impulse-start 0 refl
 kernel-first (n ∷ ns) h =
     at-kernel n ns 0 ∙ boxed-first n (at (kernel ns)) (first-pos n ns h) ∙ kernel-first ns (rest-pos n ns h)
 
 -- coefficients that agree as far as the reach
-kernels-within : (ns ms : List ℕ) → 0 < product ns → 0 < product ms → order ns ≡ order ms
+kernels-within : (ns ms : List ℕ) → 0 < weight ns → 0 < weight ms → order ns ≡ order ms
     → ((k : ℕ) → k ≤ order ns → at (kernel ns) k ≡ at (kernel ms) k) → (k : ℕ) → at (kernel ns) k ≡ at (kernel ms) k
 kernels-within ns ms p q x e k =
     elim (decLe k (order ns)) [
@@ -205,7 +208,7 @@ module _ (a b : Recipe) where
   module _ (e : Balanced (struck (a .rows)) (struck (b .rows))) (d : Balanced (struck (a .columns)) (struck (b .columns))) where
     pub counts-gain : gain a ≡ gain b
     unfolding gain
-    counts-gain = ap₂ _*_ (counts-product (a .rows) (b .rows) e) (counts-product (a .columns) (b .columns) d)
+    counts-gain = ap₂ _*_ (counts-weight (a .rows) (b .rows) e) (counts-weight (a .columns) (b .columns) d)
 
     pub counts-width : (w : ℕ) → fullWidth a w ≡ fullWidth b w
     unfolding fullWidth

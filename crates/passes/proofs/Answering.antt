@@ -1,46 +1,59 @@
--- What the method answers and leaves in the two slices, check by check.
+-- What the checks of the method answer, by the lengths of the slices.
 -- Assumes nothing.
 use mathlib.Core.Path.{_≡_, _∙_}
-use mathlib.Core.List.{List, [], _∷_, _++_}
+use mathlib.Core.List.{[], _∷_}
 use Prim.Native.Nat.{ℕ, _*_, _≤_, _<_}
-use native.Mathlib.Omega.{arith}
-use lib.ListN.{length, take, drop}
+use lib.ListN.{length}
+use borrow.Author.Tests.{ltb-false}
 use Rattle.spec.specs.Recipe.{Recipe}
-use Rattle.spec.specs.Picture.{Picture, full}
-use Rattle.spec.specs.Refusals.{check, first, otherOutput, tooFewCells, fullSize, sizeChecks, passChecks}
-use Rattle.laws.proofs.Refusals.{picture-sides, picture-pixels, picture-rest, written-not, written-all, by-output, after-output, by-cells, after-cells}
-use Rattle.passes.specs.Passed.{checks, Passed}
+use Rattle.spec.specs.Picture.{Picture}
+use Rattle.spec.specs.Refusals.{check, first, otherPixels, otherOutput, tooFewCells, fullSize, sizeChecks, pictureChecks, passChecks}
+use Rattle.laws.proofs.Refusals.{AcceptedPicture, is-accepted-picture, none-both, first-none, same-length-so, picture-numbered, picture-sides, picture-pixels, picture-rest, by-output, after-output, by-cells, after-cells}
 
-module _ (r : Recipe) (p : Picture) (out cells : List ℕ) where
+module _ (r : Recipe) (p : Picture) (out cells : ℕ) where
   -- 1 to 5
-  pub passed-size : (n : ℕ) → first (sizeChecks r (p .width) (p .height)) ≡ n → (n ≡ 0 → ⊥) → Passed r p out cells n out cells
+  pub asked-sides : (n : ℕ) → first (sizeChecks r (p .width) (p .height)) ≡ n → (n ≡ 0 → ⊥) → first (passChecks r p out cells) ≡ n
   unfolding passChecks
-  passed-size n e h = written-not _ _ _ out cells n (picture-sides r p _ n e h) h
+  asked-sides n e h = picture-sides r p _ n e h
 
   module _ (z : first (sizeChecks r (p .width) (p .height)) ≡ 0) where
-    pub passed-pixels : (length (p .pixels) ≡ p .width * p .height → ⊥) → Passed r p out cells 6 out cells
+    pub asked-pixels : (length (p .pixels) ≡ p .width * p .height → ⊥) → first (passChecks r p out cells) ≡ 6
     unfolding passChecks
-    passed-pixels h = written-not _ _ _ out cells 6 (picture-pixels r p _ z h) (λ q. omega arith)
+    asked-pixels h = picture-pixels r p _ z h
 
     module _ (l : length (p .pixels) ≡ p .width * p .height) where
-      -- 7 and 8 go by the lengths of the slices
-      lengths : first (checks r p out cells)
-          ≡ first (check (otherOutput (length out) (fullSize r p)) 7 ∷ check (tooFewCells (length cells) (fullSize r p)) 8 ∷ [])
+      rest : first (passChecks r p out cells) ≡ first (check (otherOutput out (fullSize r p)) 7 ∷ check (tooFewCells cells (fullSize r p)) 8 ∷ [])
       unfolding passChecks
-      lengths = picture-rest r p _ z l
+      rest = picture-rest r p _ z l
 
-      pub passed-output : (length out ≡ fullSize r p → ⊥) → Passed r p out cells 7 out cells
-      passed-output h = written-not _ _ _ out cells 7 (lengths ∙ by-output _ (length out) (fullSize r p) h) (λ q. omega arith)
+      pub asked-output : (out ≡ fullSize r p → ⊥) → first (passChecks r p out cells) ≡ 7
+      asked-output h = rest ∙ by-output _ out (fullSize r p) h
 
-      module _ (m : length out ≡ fullSize r p) where
-        then : first (checks r p out cells) ≡ first (check (tooFewCells (length cells) (fullSize r p)) 8 ∷ [])
-        then = lengths ∙ after-output _ (length out) (fullSize r p) m
+      module _ (m : out ≡ fullSize r p) where
+        then : first (passChecks r p out cells) ≡ first (check (tooFewCells cells (fullSize r p)) 8 ∷ [])
+        then = rest ∙ after-output _ out (fullSize r p) m
 
-        pub passed-cells : length cells < fullSize r p → Passed r p out cells 8 out cells
-        passed-cells h = written-not _ _ _ out cells 8 (then ∙ by-cells [] (length cells) (fullSize r p) h) (λ q. omega arith)
+        pub asked-cells : cells < fullSize r p → first (passChecks r p out cells) ≡ 8
+        asked-cells h = then ∙ by-cells [] cells (fullSize r p) h
 
-        pub passed-all : fullSize r p ≤ length cells → (newOut newCells : List ℕ) → newOut ≡ full r p
-            → newCells ≡ take (fullSize r p) newCells ++ drop (fullSize r p) cells → length newCells ≡ length cells
-            → Passed r p out cells 0 newOut newCells
+        pub asked-all : fullSize r p ≤ cells → first (passChecks r p out cells) ≡ 0
         unfolding first
-        passed-all h newOut newCells s w n = written-all _ _ _ out cells (then ∙ after-cells [] (length cells) (fullSize r p) h) newOut newCells s w n
+        asked-all h = then ∙ after-cells [] cells (fullSize r p) h
+
+  -- what is known where none holds
+  pub record Asked : Type 0 where
+    pub picture : AcceptedPicture r p
+    pub output : out ≡ fullSize r p
+    pub work : fullSize r p ≤ cells
+
+  pub asked-none : first (passChecks r p out cells) ≡ 0 → Asked
+  unfolding passChecks otherOutput otherPixels tooFewCells
+  asked-none e =
+      let both = none-both (pictureChecks r p) _ (picture-numbered r p) e in
+      let seven = first-none (otherOutput out (fullSize r p)) 6 _ (both .1) in
+      let eight = first-none (tooFewCells cells (fullSize r p)) 7 _ (seven .1) in
+      record {
+        picture = is-accepted-picture r p (both .0);
+        output = same-length-so out (fullSize r p) (seven .0);
+        work = ltb-false cells (fullSize r p) (eight .0);
+      }

@@ -10,7 +10,7 @@ use lib.Dec.{eqb}
 use lib.ListN.{length, take, drop, take-append-drop, drop-of-length-le}
 use Rattle.spec.specs.declared.Cascade.{Cascade}
 use Rattle.spec.specs.Words.{product}
-use Rattle.spec.specs.Recipe.{widths}
+use Rattle.spec.specs.Recipe.{widths, weight}
 use Rattle.laws.proofs.Lists.{factor-pos, product-append}
 use Rattle.laws.proofs.Kernels.{at}
 use Rattle.laws.proofs.Cascades.{spread, cascaded, cascaded-agree, cascaded-grows}
@@ -81,19 +81,20 @@ module _ (s : ℕ) (ns : List ℕ) (size : ℕ) (first : List ℕ) where
     unfolding cascaded
     step k h = ap (λ ws. cascaded s ws (at now) k) (sym e) ∙ left k h
 
-    positive : 0 < product ns → 0 < product (n ∷ drop (suc i) ns)
+    positive : 0 < weight ns → 0 < product (n ∷ drop (suc i) ns)
+    unfolding weight
     positive h =
         le-trans (factor-pos (product (take i ns)) (product (drop i ns))
         (le-trans h (le-of-eq (ap product (sym (take-append-drop i ns)) ∙ product-append (take i ns) (drop i ns)))))
         (le-of-eq (ap product e))
 
     -- it is not 0, and its sums fit
-    pub width-pos : 0 < product ns → 0 < n
-    unfolding product
+    pub width-pos : 0 < weight ns → 0 < n
+    unfolding weight product
     width-pos h = factor-pos (product (drop (suc i) ns)) n (le-trans (positive h) (le-of-eq (mul-comm n (product (drop (suc i) ns)))))
 
-    pub width-small : 0 < product ns → Small size (cascaded s ns (at first)) → Small size (spread s n (at now))
-    unfolding product
+    pub width-small : 0 < weight ns → Small size (cascaded s ns (at first)) → Small size (spread s n (at now))
+    unfolding weight product
     width-small h small k l =
         le-trans
         (cascaded-grows s (drop (suc i) ns) (spread s n (at now)) k (factor-pos n (product (drop (suc i) ns)) (positive h)))

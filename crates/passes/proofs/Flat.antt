@@ -1,5 +1,6 @@
--- The grown picture as one sequence, row by row: a cascade along the rows is one along the sequence, since the black places at the
--- end of each row keep the rows apart, and a cascade down the columns is one with a spread of a row.
+-- A picture as one sequence, laid in rows of W places: where W is no less than the grown width a cascade along the rows is one along
+-- the sequence, since the black places at the end of each row keep the rows apart. A cascade down the columns is one with a spread of a
+-- row.
 -- Assumes nothing.
 use mathlib.Core.Path.{_≡_, refl, sym, ap, ap₂, _∙_}
 use mathlib.Core.List.{List, [], _∷_}
@@ -17,7 +18,7 @@ use Rattle.laws.proofs.Sequences.{behind, behind-within, behind-before}
 use Rattle.laws.proofs.Kernels.{at, Holds}
 use Rattle.laws.proofs.Cascades.{spread, cascaded, cascaded-agree, cascaded-conv, conv-short, kernel-short}
 use Rattle.laws.proofs.Exact.{pixel-right, line, rows-pos, exact-cascaded, exact-small, length-full, getD-full}
-use Rattle.passes.specs.Steps.{flat}
+use Rattle.passes.specs.Steps.{flat, carried}
 
 -- column i of row j, in rows of W places
 module _ (W : ℕ) (i : ℕ) (h : i < W) where
@@ -54,10 +55,7 @@ module _ (W : ℕ) (i : ℕ) (h : i < W) where
       sum-agree (λ a. behind g (a * W) (v * W + i)) (λ a. behind (λ u. g (u * W + i)) (a * 1) v) n
       (λ a m. rows-up g a v ∙ ap (λ b. behind (λ u. g (u * W + i)) b v) (sym (mul-one a))))
 
-module _ (r : Recipe) (p : Picture) where
-  abbrev W : ℕ
-  W = p .width + order (r .rows)
-
+module _ (r : Recipe) (p : Picture) (W : ℕ) (room : p .width + order (r .rows) ≤ W) where
   -- going back no more than the row reach never meets a pixel of the row above
   back-along : (i j a : ℕ) → i < W → a ≤ order (r .rows) → behind (flat p W) a (j * W + i) ≡ behind (line p j) a i
   unfolding line
@@ -94,37 +92,34 @@ module _ (r : Recipe) (p : Picture) where
       ∙ sym (cascaded-conv (r .rows) (line p j) i ∙ conv-short R (line p j) m i short)
 
   -- both cascades
-  unfoldable pub passed : ℕ → ℕ
-  passed k = cascaded W (r .columns) (cascaded 1 (r .rows) (flat p W)) k
-
-  pub passed-exact : 0 < gain r → (i j : ℕ) → i < W → passed (j * W + i) ≡ exact r p i j
-  unfolding passed
-  passed-exact g i j h =
+  pub carried-exact : 0 < gain r → (i j : ℕ) → i < W → carried r W (flat p W) (j * W + i) ≡ exact r p i j
+  unfolding carried
+  carried-exact g i j h =
       cascaded-down W i h (r .columns) (cascaded 1 (r .rows) (flat p W)) j
       ∙ cascaded-agree 1 (r .columns) (λ v. cascaded 1 (r .rows) (flat p W) (v * W + i)) (λ v. cascaded 1 (r .rows) (line p v) i) j
       (λ v l. cascaded-along g i v h)
       ∙ sym (exact-cascaded r p g i j)
 
-  -- a list of the grown size that holds it is the list of all exact sums
+  -- in rows of the grown width: a list of the grown size that holds it is the list of all exact sums
   module _ (g : 0 < gain r) (w : 0 < p .width) where
-    pub passed-full : (l : List ℕ) → length l ≡ W * fullHeight r (p .height) → Holds passed l → l ≡ full r p
-    unfolding fullWidth at
-    passed-full l e h =
+    pub carried-full : W ≡ fullWidth r (p .width) → (l : List ℕ) → length l ≡ W * fullHeight r (p .height) → Holds (carried r W (flat p W)) l → l ≡ full r p
+    unfolding at
+    carried-full f l e h =
         let H = fullHeight r (p .height) in
         let pos : 0 < W = omega arith in
-        ext-getD 0 l (full r p) (omega (arith, length-full r p, mul-comm W H))
+        ext-getD 0 l (full r p) (e ∙ mul-comm W H ∙ ap (λ x. H * x) f ∙ sym (length-full r p))
         (λ k m.
         let q : k / W * W + k % W ≡ k = div-add-mod' k W in
         let u : k < H * W = omega (arith, mul-comm W H) in
         h k m
-        ∙ ap passed (sym q)
-        ∙ passed-exact g (k % W) (k / W) (mod-lt k pos)
-        ∙ sym (getD-full r p (k / W) (k % W) (div-lt-iff-lt-mul pos .1 u) (mod-lt k pos))
-        ∙ ap (λ n. getD (full r p) n 0) q)
+        ∙ ap (carried r W (flat p W)) (sym q)
+        ∙ carried-exact g (k % W) (k / W) (mod-lt k pos)
+        ∙ sym (getD-full r p (k / W) (k % W) (div-lt-iff-lt-mul pos .1 u) (le-trans (mod-lt k pos) (le-of-eq f)))
+        ∙ ap (λ n. getD (full r p) n 0) (ap (λ x. k / W * x + k % W) (sym f) ∙ q))
 
-    pub passed-small : ((k : ℕ) → getD (p .pixels) k 0 ≤ 255) → (k : ℕ) → passed k ≤ 255 * gain r
-    passed-small small k =
+    pub carried-small : (most : ℕ) → ((k : ℕ) → getD (p .pixels) k 0 ≤ most) → (k : ℕ) → carried r W (flat p W) k ≤ most * gain r
+    carried-small most small k =
         let pos : 0 < W = omega arith in
         let q : k / W * W + k % W ≡ k = div-add-mod' k W in
-        le-trans (le-of-eq (ap passed (sym q) ∙ passed-exact g (k % W) (k / W) (mod-lt k pos)))
-        (exact-small r p 255 small (k % W) (k / W))
+        le-trans (le-of-eq (ap (carried r W (flat p W)) (sym q) ∙ carried-exact g (k % W) (k / W) (mod-lt k pos)))
+        (exact-small r p most small (k % W) (k / W))

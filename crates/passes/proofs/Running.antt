@@ -2,8 +2,8 @@
 -- Assumes nothing.
 use mathlib.Core.Path.{_≡_, sym, ap, _∙_}
 use mathlib.Core.List.{List}
-use Prim.Native.Nat.{ℕ, _+_, _-_, _*_, _^_, _≤_, _<_}
-use native.Mathlib.Nat.{le-trans, le-of-eq, mul-comm, mul-one, mul-le-mul-right, le-mul-of-pos-right}
+use Prim.Native.Nat.{ℕ, _+_, _-_, _*_, _/_, _^_, _≤_, _<_}
+use native.Mathlib.Nat.{le-trans, le-of-eq, mul-comm, mul-one, mul-le-mul-right, le-mul-of-pos-right, mod-lt, div-add-mod'}
 use native.Mathlib.Decide.{decLe, decLt}
 use native.Mathlib.Omega.{arith}
 use lib.ListN.{length}
@@ -13,12 +13,16 @@ use Rattle.laws.proofs.Numbers.{row-fits}
 use Rattle.laws.proofs.Cascades.{spread, spread-grows, slide}
 use Rattle.passes.specs.Steps.{Below, Ready}
 
+-- a width reaches over a row at least
+pub row-within : (s n : ℕ) → 0 < n → s ≤ n * s
+row-within s n h = le-trans (le-mul-of-pos-right s h) (le-of-eq (mul-comm s n))
+
 module _ (s n : ℕ) (f : ℕ → ℕ) (k : ℕ) where
   -- the first places: nothing comes before them, and nothing goes out
   pub spread-first : 0 < n → k < s → spread s n f k ≡ f k
   spread-first h l =
-      let m : s ≤ n * s = le-trans (le-mul-of-pos-right s h) (le-of-eq (mul-comm s n)) in
-      omega (arith, slide s n f k, behind-before f (n * s) k (omega arith), behind-before (spread s n f) s k l)
+      let m = row-within s n h in
+      omega (arith, slide s n f k, behind-before f (n * s) k (omega (arith, m)), behind-before (spread s n f) s k l)
 
   -- nothing goes out yet
   pub spread-rise : k < n * s → spread s n f k ≡ behind (spread s n f) s k + f k
@@ -40,10 +44,10 @@ behind-next g k =
     behind-within g 1 (k + 1) (omega arith) ∙ ap g e
 
 -- what is added up at a place fits
-pub fits : (s n : ℕ) (src dst : List ℕ) → Ready s n src dst → (k : ℕ) → k < length src → behind (spread s n (at src)) s k + at src k ≤ 2 ^ 53
+pub fits : (s n : ℕ) (src dst : List ℕ) → Ready s n src dst → (k : ℕ) → k < length src → behind (spread s n (at src)) s k + at src k ≤ 2 ^ 61
 fits s n src dst r k h =
     let f = spread s n (at src) in
-    let here : at src k ≤ 2 ^ 52 = le-trans (spread-grows s n (at src) k (r .wide)) (r .small k h) in
+    let here : at src k ≤ 2 ^ 60 = le-trans (spread-grows s n (at src) k (r .wide)) (r .small k h) in
     elim (decLe s k) [
       | yes g ↦ omega (arith, behind-within f s k g, r .small (k - s) (omega arith))
       | no g ↦ omega (arith, behind-before f s k (omega arith))
@@ -55,7 +59,7 @@ module _ (s n : ℕ) (src dst : List ℕ) (here : ℕ) (r : Ready s n src dst) (
   above : at dst (k - s) ≡ behind (spread s n (at src)) s k
   above = b (k - s) (omega arith) ∙ sym (behind-within (spread s n (at src)) s k (omega arith))
 
-  pub sum-fits : k < length src → at dst (k - s) + at src k ≤ 2 ^ 53
+  pub sum-fits : k < length src → at dst (k - s) + at src k ≤ 2 ^ 61
   sum-fits h = omega (arith, above, fits s n src dst r k h)
 
   pub sum-grows : k < n * s → at dst (k - s) + at src k ≡ spread s n (at src) k
@@ -73,3 +77,17 @@ row-before s n j h =
           let g : n * s ≤ j * s = mul-le-mul-right s (omega arith) in
           absurd (omega arith)
     ]
+
+-- the row j of s places is whole where so many are, and past those there is less than a row
+pub row-whole : (s j size : ℕ) → j < size / s → j * s + s ≤ size
+row-whole s j size h = omega (arith, row-fits s j (size / s) h, div-add-mod' size s)
+
+pub row-cut : (s j size : ℕ) → 0 < s → size / s ≤ j → size ≤ j * s + s
+row-cut s j size p h =
+    let m : size / s * s ≤ j * s = mul-le-mul-right s h in
+    omega (arith, m, div-add-mod' size s, mod-lt size p)
+
+-- what is needed is still there after the target is written
+pub still-ready : (s n : ℕ) (src old new : List ℕ) → Ready s n src old → length new ≡ length old → Ready s n src new
+still-ready s n src old new r e =
+    record { apart = r .apart; wide = r .wide; offsets = r .offsets; size = e ∙ r .size; small = r .small }

@@ -1,56 +1,51 @@
--- The row widths and then the column widths over the grown picture: what each cascade needs, and that they end with the exact sums.
+-- The row widths and then the column widths of a recipe: what each cascade needs, and that over the grown picture they end with the
+-- exact sums.
 -- Assumes nothing.
-use mathlib.Core.Path.{_≡_, ap, _∙_}
+use mathlib.Core.Path.{_≡_, _∙_}
 use mathlib.Core.List.{List}
 use Prim.Native.Nat.{ℕ, _+_, _*_, _^_, _≤_, _<_}
-use native.Mathlib.Nat.{le-trans, le-of-eq, mul-le-mul-left}
+use native.Mathlib.Nat.{le-trans, le-of-eq, mul-le-mul}
 use native.Mathlib.Omega.{arith}
 use lib.ListN.{length, getD}
 use Rattle.spec.specs.Recipe.{Recipe, order, gain}
-use Rattle.spec.specs.Picture.{Picture, fullHeight, full}
+use Rattle.spec.specs.Picture.{Picture, fullWidth, fullHeight, full}
 use Rattle.laws.proofs.Kernels.{at}
 use Rattle.laws.proofs.Cascades.{cascaded, cascaded-agree, cascaded-grows}
 use Rattle.laws.proofs.Exact.{columns-pos}
 use Rattle.laws.proofs.Refusals.{AcceptedPicture}
-use Rattle.passes.specs.Steps.{flat, Below, Small}
-use Rattle.passes.proofs.Flat.{passed, passed-full, passed-small}
+use Rattle.passes.specs.Steps.{flat, carried, Below, Small}
+use Rattle.passes.proofs.Flat.{carried-full, carried-small}
 
-module _ (r : Recipe) (p : Picture) (W size : ℕ) (a : AcceptedPicture r p) (small : (k : ℕ) → getD (p .pixels) k 0 ≤ 255)
-    (e : W ≡ p .width + order (r .rows)) where
-  abbrev across : ℕ → ℕ
-  across = cascaded 1 (r .rows) (flat p W)
+-- over what stands in a list
+module _ (r : Recipe) (W size : ℕ) (now : List ℕ) (small : Small size (carried r W (at now))) where
+  pub rows-small : 0 < gain r → Small size (cascaded 1 (r .rows) (at now))
+  unfolding carried
+  rows-small g k h = le-trans (cascaded-grows W (r .columns) (cascaded 1 (r .rows) (at now)) k (columns-pos r g)) (small k h)
 
-  -- all passes
-  all : (k : ℕ) → cascaded W (r .columns) across k ≡ passed r p k
-  unfolding passed
-  all k = ap (λ s. cascaded s (r .columns) (cascaded 1 (r .rows) (flat p s)) k) e
+  module _ (mid : List ℕ) (b : Below size (cascaded 1 (r .rows) (at now)) mid) where
+    pub columns-carry : (k : ℕ) → k < size → cascaded W (r .columns) (at mid) k ≡ carried r W (at now) k
+    unfolding carried
+    columns-carry k h = cascaded-agree W (r .columns) (at mid) (cascaded 1 (r .rows) (at now)) k (λ j l. b j (omega arith))
 
-  all-small : (k : ℕ) → cascaded W (r .columns) across k ≤ 2 ^ 52
-  all-small k =
-      let light : 255 * gain r ≤ 255 * 2 ^ 44 = mul-le-mul-left 255 (a .recipe .light) in
-      le-trans (le-of-eq (all k)) (le-trans (passed-small r p (a .recipe .notZero) (a .sides .width .0) small k) (omega arith))
+    pub columns-small : Small size (cascaded W (r .columns) (at mid))
+    columns-small k h = le-trans (le-of-eq (columns-carry k h)) (small k h)
 
-  module _ (now : List ℕ) (b : Below size (flat p W) now) where
-    rows-agree : (k : ℕ) → k < size → cascaded 1 (r .rows) (at now) k ≡ across k
-    rows-agree k h = cascaded-agree 1 (r .rows) (at now) (flat p W) k (λ j l. b j (omega arith))
+-- over a picture in rows of W places
+module _ (r : Recipe) (p : Picture) (W size : ℕ) (a : AcceptedPicture r p) (room : p .width + order (r .rows) ≤ W)
+    (now : List ℕ) (b : Below size (flat p W) now) where
+  agrees : (k : ℕ) → k < size → carried r W (at now) k ≡ carried r W (flat p W) k
+  unfolding carried
+  agrees k h =
+      cascaded-agree W (r .columns) (cascaded 1 (r .rows) (at now)) (cascaded 1 (r .rows) (flat p W)) k
+      (λ i l. cascaded-agree 1 (r .rows) (at now) (flat p W) i (λ j m. b j (omega arith)))
 
-    pub rows-small : Small size (cascaded 1 (r .rows) (at now))
-    rows-small k h =
-        le-trans (le-of-eq (rows-agree k h))
-        (le-trans (cascaded-grows W (r .columns) across k (columns-pos r (a .recipe .notZero))) (all-small k))
+  pub picture-small : (most : ℕ) → most ≤ 65535 → ((k : ℕ) → getD (p .pixels) k 0 ≤ most) → Small size (carried r W (at now))
+  picture-small most deep small k h =
+      let light : most * gain r ≤ 65535 * 2 ^ 44 = mul-le-mul deep (a .recipe .light) in
+      le-trans (le-of-eq (agrees k h)) (le-trans (carried-small r p W room (a .recipe .notZero) (a .sides .width .0) most small k) (omega arith))
 
-    pub rows-done : (new : List ℕ) → Below size (cascaded 1 (r .rows) (at now)) new → Below size across new
-    rows-done new d k h = d k h ∙ rows-agree k h
-
-  module _ (now : List ℕ) (b : Below size across now) where
-    columns-agree : (k : ℕ) → k < size → cascaded W (r .columns) (at now) k ≡ cascaded W (r .columns) across k
-    columns-agree k h = cascaded-agree W (r .columns) (at now) across k (λ j l. b j (omega arith))
-
-    pub columns-small : Small size (cascaded W (r .columns) (at now))
-    columns-small k h = le-trans (le-of-eq (columns-agree k h)) (all-small k)
-
-    pub columns-done : (new : List ℕ) → Below size (cascaded W (r .columns) (at now)) new → length new ≡ size
-        → size ≡ W * fullHeight r (p .height) → new ≡ full r p
-    columns-done new d l s =
-        passed-full r p (a .recipe .notZero) (a .sides .width .0) new (l ∙ s ∙ ap (λ w. w * fullHeight r (p .height)) e)
-        (λ k h. d k (omega arith) ∙ columns-agree k (omega arith) ∙ all k)
+  pub picture-done : (new : List ℕ) → Below size (carried r W (at now)) new → length new ≡ size
+      → W ≡ fullWidth r (p .width) → size ≡ W * fullHeight r (p .height) → new ≡ full r p
+  picture-done new d l e s =
+      carried-full r p W room (a .recipe .notZero) (a .sides .width .0) e new (l ∙ s)
+      (λ k h. d k (omega arith) ∙ agrees k (omega arith))

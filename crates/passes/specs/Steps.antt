@@ -5,21 +5,26 @@ use mathlib.Core.List.{List, [], _∷_}
 use Prim.Native.Nat.{ℕ, _*_, _/_, _%_, _^_, _≤_, _<_}
 use lib.Dec.{eqb}
 use lib.ListN.{length}
+use Rattle.spec.specs.Recipe.{Recipe}
 use Rattle.spec.specs.Picture.{Picture, pixel}
 use Rattle.laws.proofs.Kernels.{at}
-use Rattle.laws.proofs.Cascades.{spread}
+use Rattle.laws.proofs.Cascades.{spread, cascaded}
 
 -- a picture in rows of W places, one after the other: its pixels, and black to their right and below them
 unfoldable pub flat : Picture → ℕ → ℕ → ℕ
 flat p W k = pixel p (k % W) (k / W)
 
+-- a recipe's widths over a sequence in rows of W places: the row widths, and then the column widths
+unfoldable pub carried : Recipe → ℕ → (ℕ → ℕ) → ℕ → ℕ
+carried r W f = cascaded W (r .columns) (cascaded 1 (r .rows) f)
+
 -- a list that holds a sequence below a place
 abbrev pub Below : ℕ → (ℕ → ℕ) → List ℕ → Type 0
 Below n f l = (k : ℕ) → k < n → at l k ≡ f k
 
--- a sequence of 52-bit sums below a place
+-- a sequence of 60-bit sums below a place
 abbrev pub Small : ℕ → (ℕ → ℕ) → Type 0
-Small n f = (k : ℕ) → k < n → f k ≤ 2 ^ 52
+Small n f = (k : ℕ) → k < n → f k ≤ 2 ^ 60
 
 -- the places of a list from one place up to another are written, each with the value of a sequence, and no others
 pub record Rewritten (from to : ℕ) (f : ℕ → ℕ) (old new : List ℕ) : Type 0 where
@@ -29,15 +34,11 @@ pub record Rewritten (from to : ℕ) (f : ℕ → ℕ) (old new : List ℕ) : Ty
 
 -- a box filter of width n and a spread s, from one slice to another: what it needs
 pub record Ready (s n : ℕ) (src dst : List ℕ) : Type 0 where
+  pub apart : 0 < s
   pub wide : 0 < n
+  pub offsets : n * s ≤ 2 ^ 32
   pub size : length dst ≡ length src
   pub small : Small (length src) (spread s n (at src))
-
--- so many rows of s places, few enough for the offsets
-pub record Grid (rows s n : ℕ) (l : List ℕ) : Type 0 where
-  pub some : 0 < rows
-  pub size : length l ≡ rows * s
-  pub offsets : n * s ≤ 2 ^ 32
 
 -- of two buffers the one that holds the picture
 abbrev pub present : Bool → List ℕ → List ℕ → List ℕ

@@ -8,7 +8,7 @@ ghost use Rattle.laws.proofs.Cascades.{spread};
 ghost use Rattle.passes.specs.Steps.{Below, Ready};
 
 // The smaller of two numbers.
-fn least(a: usize, b: usize) -> usize
+pub(crate) fn least(a: usize, b: usize) -> usize
     ensures { λ r. ⌜ r ≡ min a b ⌝ }
 {
     if a < b { a } else { b }

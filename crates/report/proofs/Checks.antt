@@ -9,7 +9,7 @@ use lib.Dec.{ltb}
 use lib.ListN.{length}
 use borrow.Author.Tests.{lt-ltb, le-ltb, ltb-false}
 use Rattle.spec.specs.declared.Filter.{Filter}
-use Rattle.spec.specs.Recipe.{recipe, gain}
+use Rattle.spec.specs.Recipe.{recipe, heldFilter, gain}
 use Rattle.spec.specs.Picture.{fullWidth, fullHeight}
 use Rattle.spec.specs.Stream.{streamCells}
 use Rattle.spec.specs.Job.{jobRecipe, jobWidth, jobHeight, jobOffset, jobLength}
@@ -22,7 +22,7 @@ use Rattle.filter.proofs.Refusal.{Known, known, number-is}
 use Rattle.stream.specs.declared.calls.Started.{Started}
 use Rattle.stream.specs.Calls.{Began, began, zeros, started, start}
 use Rattle.job.specs.declared.reading.Job.{Job}
-use Rattle.job.specs.Answers.{heldFilter, noJob, jobTold, jobRead}
+use Rattle.job.specs.Answers.{noJob, jobTold, jobRead}
 use Rattle.job.proofs.Holding.{held-recipe}
 use Rattle.job.proofs.Answering.{job-length}
 use Rattle.report.specs.declared.opening.Opened.{Opened}

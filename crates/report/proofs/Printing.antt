@@ -9,8 +9,8 @@ use lib.ListN.{length, getD, take, drop, replicate, length-replicate, length-dro
 use lib.Seq.{getD-drop}
 use Rattle.spec.specs.declared.Filter.{Filter}
 use Rattle.spec.specs.Words.{tab}
-use Rattle.spec.specs.Recipe.{Recipe, recipe, gain}
-use Rattle.spec.specs.Picture.{picture, fullWidth, fullHeight, fullRow}
+use Rattle.spec.specs.Recipe.{Recipe, heldFilter, recipe, gain}
+use Rattle.spec.specs.Picture.{largestGray, Within, picture, fullWidth, fullHeight, fullRow}
 use Rattle.spec.specs.Job.{jobRecipe, jobWidth, jobHeight, jobOffset, jobPicture}
 use Rattle.spec.specs.Refusals.{first, either, programChecks}
 use Rattle.spec.specs.Program.{line, sumsPrinted, refusalPrinted, printed}
@@ -19,9 +19,7 @@ use Rattle.laws.proofs.Refusals.{lent-refused, lent-accepted}
 use Rattle.stream.specs.declared.calls.State.{State}
 use Rattle.stream.specs.declared.calls.Stepped.{Stepped}
 use Rattle.stream.specs.Calls.{Called, called, began, start}
-use Rattle.job.specs.Answers.{heldFilter}
 use Rattle.job.proofs.Answering.{job-length}
-use Rattle.rows.specs.OnePass.{Bytes}
 use Rattle.rows.specs.Streaming.{Streamed}
 use Rattle.rows.specs.Advance.{advance}
 use Rattle.rows.proofs.Driving.{begun, is-due, has-come}
@@ -34,7 +32,7 @@ use Rattle.report.proofs.Fronts.{take-front}
 use Rattle.report.proofs.Rows.{advance-kept}
 
 -- the lines of all grown rows from the k-th on, driven over a picture
-module _ (f : Filter) (w h : ℕ) (pixels : List ℕ) (size : length pixels ≡ w * h) (small : Bytes (picture w h pixels)) where
+module _ (f : Filter) (w h : ℕ) (pixels : List ℕ) (size : length pixels ≡ w * h) (small : Within largestGray (picture w h pixels)) where
   module _ (k : ℕ) (s : State) (cells : List ℕ) (st : Streamed f (picture w h pixels) k s cells) (due : suc k ≤ fullHeight (recipe f) h) where
     abbrev pub row : List ℕ
     row = replicate (fullWidth (recipe (s .filter)) (s .width)) 0
@@ -112,7 +110,7 @@ module _ (bytes cells head text : List ℕ) where
         let fine = is-fine bytes (program-job bytes e) in
         length-drop (jobOffset bytes) bytes ∙ omega (arith, fine .total, job-length bytes (jobWidth bytes) (jobHeight bytes))
 
-    few : Bytes (picture (jobWidth bytes) (jobHeight bytes) pixels)
+    few : Within largestGray (picture (jobWidth bytes) (jobHeight bytes) pixels)
     unfolding pixels
     few k = omega (arith, getD-drop (jobOffset bytes) bytes k 0, small (jobOffset bytes + k))
 

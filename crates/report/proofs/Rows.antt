@@ -1,24 +1,21 @@
 -- The call `advance` where it is refused, and the line of the row that it leaves.
 -- Assumes nothing.
 use mathlib.Core.Path.{_≡_, refl, sym, ap, subst, _∙_}
-use mathlib.Core.Bool.{true, cond}
-use mathlib.Core.List.{List, []}
-use Prim.Native.Nat.{ℕ, zero, suc, _≤_, _<_}
-use native.Mathlib.Decide.{decLt}
+use mathlib.Core.Bool.{true}
+use mathlib.Core.List.{List}
+use Prim.Native.Nat.{ℕ, zero, suc, _≤_}
 use native.Mathlib.Omega.{arith}
 use lib.ListN.{length, replicate}
-use borrow.Author.Tests.{lt-ltb, le-ltb}
 use Rattle.spec.specs.Recipe.{recipe}
 use Rattle.spec.specs.Picture.{fullWidth}
-use Rattle.spec.specs.Refusals.{Check, first, either, lent, badState, sizeChecks, rowChecks, drainChecks}
+use Rattle.spec.specs.Refusals.{first, either, badState, sizeChecks}
 use Rattle.spec.specs.Program.{line}
-use Rattle.laws.proofs.Refusals.{lent-refused}
 use Rattle.stream.specs.declared.calls.State.{State}
 use Rattle.stream.specs.declared.calls.Stepped.{Stepped}
-use Rattle.stream.specs.Stages.{entering}
-use Rattle.stream.specs.Calls.{stateOf, Called, called, steps, answers, push, drain}
+use Rattle.stream.specs.Calls.{stateOf, Called, called}
 use Rattle.stream.proofs.States.{bad-refused, first-holds}
-use Rattle.rows.specs.Advance.{rowAt, advance}
+use Rattle.rows.specs.Advance.{pictureDue, advance, Skipped, skipped}
+use Rattle.rows.proofs.Advancing.{refusedCall, advance-refused, left, advance-stopped}
 use Rattle.report.specs.Opening.{front}
 use Rattle.report.specs.declared.lining.Lined.{Lined}
 use Rattle.report.specs.Lining.{Lining, lined, rowLined, next}
@@ -26,57 +23,16 @@ use Rattle.report.proofs.Fronts.{front-inside}
 
 -- ---- refused
 
--- a refused call: its number, the given state, and what was lent as it was
-abbrev refusedCall : ℕ → State → List ℕ → List ℕ → Called
-refusedCall n s out cells = record { number = n; state = s; count = 0; out = out; cells = cells }
-
-answers-refused : (cs : List Check) (s : State) (pixels out cells : List ℕ) (n : ℕ) → first cs ≡ n → (n ≡ 0 → ⊥)
-    → answers cs s pixels out cells ≡ refusedCall n s out cells
-unfolding answers
-answers-refused cs s pixels out cells n e h =
-    lent-refused cs (steps s (entering (recipe (s .filter)) (s .width) pixels) cells) _ n e h ∙ ap (λ k. refusedCall k s out cells) e
-
--- the given state comes back with a number
-answers-kept : (cs : List Check) (s : State) (pixels out cells : List ℕ) → (answers cs s pixels out cells .number ≡ 0 → ⊥)
-    → answers cs s pixels out cells .state ≡ s
-unfolding answers lent either steps
-answers-kept cs s pixels out cells h = go (steps s (entering (recipe (s .filter)) (s .width) pixels) cells) refl (first cs) h
-  where
-    go : (made : Called) → made .number ≡ 0 → (k : ℕ) → (either k made (refusedCall k s out cells) .number ≡ 0 → ⊥)
-        → either k made (refusedCall k s out cells) .state ≡ s
-    go made z zero g = absurd (g z)
-    go made z (suc k) g = refl
-
 module _ (s : State) (pixels out cells : List ℕ) where
-  -- a row call while rows of the picture are due, then a drain
-  by-row : s .emitted < s .height → advance s pixels out cells ≡ push s (rowAt pixels (s .width) (s .emitted)) out cells
-  unfolding advance
-  by-row h = ap (λ b. cond b (push s (rowAt pixels (s .width) (s .emitted)) out cells) (drain s out cells)) (lt-ltb (s .emitted) (s .height) h)
-
-  by-drain : s .height ≤ s .emitted → advance s pixels out cells ≡ drain s out cells
-  unfolding advance
-  by-drain h = ap (λ b. cond b (push s (rowAt pixels (s .width) (s .emitted)) out cells) (drain s out cells)) (le-ltb (s .emitted) (s .height) h)
-
   -- 9 for a state whose recipe or sides are refused
   pub advance-bad : badState (stateOf s) ≡ true → advance s pixels out cells ≡ refusedCall 9 s out cells
-  unfolding push drain rowChecks drainChecks
-  advance-bad e =
-      elim (decLt (s .emitted) (s .height)) [
-        | yes h ↦ by-row h ∙ answers-refused _ s (rowAt pixels (s .width) (s .emitted)) out cells 9 (first-holds (badState (stateOf s)) 9 _ e) (λ z. omega arith)
-        | no h ↦ by-drain (omega arith) ∙ answers-refused _ s [] out cells 9 (first-holds (badState (stateOf s)) 9 _ e) (λ z. omega arith)
-      ]
+  unfolding pictureDue
+  advance-bad e = sym (advance-refused s pixels out cells 9 (first-holds (badState (stateOf s)) 9 _ e) (λ z. omega arith))
 
+  -- the given state comes back with a number
   pub advance-kept : (advance s pixels out cells .number ≡ 0 → ⊥) → advance s pixels out cells .state ≡ s
-  unfolding push drain
-  advance-kept g =
-      elim (decLt (s .emitted) (s .height)) [
-        | yes h ↦
-            let is = by-row h in
-            ap (λ (a : Called). a .state) is ∙ answers-kept _ s (rowAt pixels (s .width) (s .emitted)) out cells (λ z. g (ap (λ (a : Called). a .number) is ∙ z))
-        | no h ↦
-            let is = by-drain (omega arith) in
-            ap (λ (a : Called). a .state) is ∙ answers-kept _ s [] out cells (λ z. g (ap (λ (a : Called). a .number) is ∙ z))
-      ]
+  unfolding left skipped
+  advance-kept g = ap (λ (x : Skipped). x .state) (advance-stopped s pixels out cells g)
 
 -- ---- its line
 

@@ -2,13 +2,12 @@
 use mathlib.Core.List.{List, [], _∷_, _++_}
 use Prim.Native.Nat.{ℕ}
 use lib.ListN.{length, drop}
-use Rattle.spec.specs.Recipe.{gain}
+use Rattle.spec.specs.Recipe.{heldFilter, gain}
 use Rattle.spec.specs.Picture.{fullWidth, fullHeight}
 use Rattle.spec.specs.Job.{jobRecipe, jobWidth, jobHeight, jobOffset}
 use Rattle.spec.specs.Refusals.{first, either, lent, programChecks}
 use Rattle.spec.specs.Program.{line, refusalPrinted}
 use Rattle.stream.specs.Calls.{zeros, start}
-use Rattle.job.specs.Answers.{heldFilter}
 use Rattle.report.specs.declared.opening.Opened.{Opened}
 
 -- the answer, and what the cells then hold

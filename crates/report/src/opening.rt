@@ -3,11 +3,11 @@ ghost use mathlib.Core.Path.{_≡_};
 ghost use lib.ListN.{length};
 ghost use Rattle.report.specs.Opening.{notOpened, opening, jobOpened, firstLine, front};
 use filter::measure;
+use filter::no_filter;
 use job::read;
-use spec::Cascade;
-use spec::Filter;
 use stream::State;
 use stream::start;
+use stream::state_at;
 use text::Line;
 use text::line;
 use text::refusal_line;
@@ -28,21 +28,9 @@ pub struct Opened {
 fn not_opened(number: u8) -> Opened
     ensures { λ r. ⌜ r ≡ notOpened number ⌝ }
 {
-    let none = Cascade {
-        count: 0,
-        widths: [0u8; 48],
-    };
     Opened {
         refusal: number,
-        state: State {
-            filter: Filter {
-                rows: none,
-                columns: none,
-            },
-            width: 0,
-            height: 0,
-            emitted: 0,
-        },
+        state: state_at(no_filter(), 0, 0, 0),
         offset: 0,
         width: 0,
         height: 0,

@@ -11,22 +11,22 @@ use borrow.Author.Tests.{le-ltb, lt-leb}
 use Rattle.spec.specs.declared.Filter.{Filter}
 use Rattle.spec.specs.Words.{tab}
 use Rattle.spec.specs.Recipe.{recipe}
-use Rattle.spec.specs.Picture.{Picture, picture, fullWidth, fullHeight, fullRow}
+use Rattle.spec.specs.Picture.{Picture, picture, largestGray, Within, fullWidth, fullHeight, fullRow}
 use Rattle.spec.specs.Refusals.{check, first, either, otherPixels, otherOutput, sizeChecks, startChecks}
 use Rattle.laws.proofs.Lists.{getD-tab, length-part, tab-more}
 use Rattle.laws.proofs.Refusals.{as-stated, none-both, size-numbered, is-sized}
 use Rattle.stream.specs.declared.calls.State.{State}
 use Rattle.stream.specs.declared.calls.Started.{Started}
 use Rattle.stream.specs.declared.calls.Stepped.{Stepped}
-use Rattle.stream.specs.Calls.{Began, began, start, started, Called, called, next}
+use Rattle.stream.specs.Calls.{stateAt, Began, began, start, started, Called, called, next}
 use Rattle.rows.specs.Runs.{Call, aRow, aDrain, answerOf, Yielded, run, Carried, carried, rowOf, rows, outputs, pictureRow}
-use Rattle.rows.specs.OnePass.{Bytes, acceptedCalls, left}
+use Rattle.rows.specs.OnePass.{acceptedCalls, left}
 use Rattle.rows.proofs.Run.{one-pass, first-rows, accepted-start, length-outputs, next-state, carried-append, run-append, rows-append, outputs-append}
 use Rattle.rows.specs.Streaming.{Streamed, Due, Came}
 
 module _ (f : Filter) (p : Picture) where
   abbrev at : ℕ → State
-  at k = record { filter = f; width = p .width; height = p .height; emitted = k }
+  at k = stateAt f (p .width) (p .height) k
 
   -- one accepted call more, which gives the picture's next row where one is due
   module _ (k : ℕ) (s : State) (cells : List ℕ) (st : Streamed f p k s cells) (c : Call) where
@@ -80,7 +80,7 @@ module _ (f : Filter) (p : Picture) where
             is = next-state c s cells accepted ∙ ap next (st .is);
           }
 
-      yields-row : Bytes p → answerOf c s cells .out ≡ fullRow (recipe f) p k
+      yields-row : Within largestGray p → answerOf c s cells .out ≡ fullRow (recipe f) p k
       unfolding yielded outputs before
       yields-row small =
           let ys = acceptedCalls f p (st .given) more in
@@ -125,7 +125,7 @@ module _ (f : Filter) (p : Picture) where
         let e : min k (p .height) ≡ min (k + 1) (p .height) = omega arith in
         append-nil (tab (min k (p .height)) (pictureRow p)) ∙ ap (λ n. tab n (pictureRow p)) e
 
-    module _ (small : Bytes p) (r : Stepped) (row left : List ℕ) where
+    module _ (small : Within largestGray p) (r : Stepped) (row left : List ℕ) where
       pub row-came : k < p .height → called r row left ≡ answerOf (aRow (pictureRow p k) out) s cells
           → Streamed f p (k + 1) (r .state) left × (row ≡ fullRow (recipe f) p k)
       unfolding called rowOf

@@ -11,6 +11,7 @@ use native.Mathlib.Omega.{arith}
 use lib.ListN.{length, getD, take, drop, length-append, length-drop}
 use lib.Seq.{length-take-le, take-append-seam, drop-append-seam, getD-take, getD-drop}
 use Rattle.spec.specs.Words.{sum, tab, total, product}
+use Rattle.spec.specs.Recipe.{weight}
 use Rattle.spec.specs.Stream.{boxCells}
 use Rattle.laws.proofs.Numbers.{row-fits}
 use Rattle.laws.proofs.Sums.{sum-agree}
@@ -116,10 +117,10 @@ module _ (w n : ℕ) (pos : 0 < n) (g : ℕ → ℕ) (row own : List ℕ) (f : F
           made-row (rowStage n row own .row) (ap (λ (x : Worked). x .row) (row-wide n row own h) ∙ row-boxed n row)
 
 -- all stages of the row list, on as many cells as they have
-pub rows-follow : (w : ℕ) (ns : List ℕ) (g : ℕ → ℕ) (row cells : List ℕ) → 0 < product ns → length cells ≡ total boxCells ns → Follows w g row
+pub rows-follow : (w : ℕ) (ns : List ℕ) (g : ℕ → ℕ) (row cells : List ℕ) → 0 < weight ns → length cells ≡ total boxCells ns → Follows w g row
     → Follows w (cascaded 1 ns g) (stages boxCells rowStage ns row cells .row)
     × (length (stages boxCells rowStage ns row cells .cells) ≡ length cells)
-unfolding stages total product cascaded
+unfolding stages total weight product cascaded
 rows-follow w [] g row cells p s f = (f, refl)
 rows-follow w (n ∷ ns) g row cells p s f =
     let pos : 0 < n = factor-pos (product ns) n (le-trans p (le-of-eq (mul-comm n (product ns)))) in
@@ -314,11 +315,11 @@ KeptAll w (n ∷ ns) f e cells =
     Kept w n f e (take (w * boxCells n) cells) × KeptAll w ns (λ j i. spread 1 n (λ v. f v i) j) e (drop (w * boxCells n) cells)
 
 -- all stages of the column list: the row follows the cascade, and the cells are those of one row more
-pub columns-follow : (w : ℕ) (ns : List ℕ) (f : ℕ → ℕ → ℕ) (e : ℕ) (row cells : List ℕ) → 0 < product ns → total (λ n. w * boxCells n) ns ≤ length cells
+pub columns-follow : (w : ℕ) (ns : List ℕ) (f : ℕ → ℕ → ℕ) (e : ℕ) (row cells : List ℕ) → 0 < weight ns → total (λ n. w * boxCells n) ns ≤ length cells
     → Follows w (f e) row → KeptAll w ns f e cells
     → let made = stages (λ n. w * boxCells n) (columnStage e) ns row cells in
     Follows w (λ i. cascaded 1 ns (λ j. f j i) e) (made .row) × KeptAll w ns f (e + 1) (made .cells) × (length (made .cells) ≡ length cells)
-unfolding stages total product cascaded
+unfolding stages total weight product cascaded
 columns-follow w [] f e row cells p s r k = (r, tt, refl)
 columns-follow w (n ∷ ns) f e row cells p s r k =
     let pos : 0 < n = factor-pos (product ns) n (le-trans p (le-of-eq (mul-comm n (product ns)))) in
@@ -355,9 +356,9 @@ zero-kept w n f own pos z s =
           ∙ sym (ap (λ c. sum c (λ j. f j i) % 2 ^ 64) (covered-none n pos t a));
     }
 
-pub zeros-kept : (w : ℕ) (ns : List ℕ) (f : ℕ → ℕ → ℕ) (cells : List ℕ) → 0 < product ns → total (λ n. w * boxCells n) ns ≤ length cells
+pub zeros-kept : (w : ℕ) (ns : List ℕ) (f : ℕ → ℕ → ℕ) (cells : List ℕ) → 0 < weight ns → total (λ n. w * boxCells n) ns ≤ length cells
     → ((k : ℕ) → k < total (λ n. w * boxCells n) ns → at cells k ≡ 0) → KeptAll w ns f 0 cells
-unfolding total product at
+unfolding total weight product at
 zeros-kept w [] f cells p s z = tt
 zeros-kept w (n ∷ ns) f cells p s z =
     let pos : 0 < n = factor-pos (product ns) n (le-trans p (le-of-eq (mul-comm n (product ns)))) in

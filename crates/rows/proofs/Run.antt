@@ -13,7 +13,7 @@ use borrow.Author.Tests.{lt-ltb, le-ltb, lt-leb, eq-eqb, ltb-false}
 use Rattle.spec.specs.Words.{tab, part}
 use Rattle.spec.specs.declared.Filter.{Filter}
 use Rattle.spec.specs.Recipe.{Recipe, recipe, gain, order}
-use Rattle.spec.specs.Picture.{Picture, fullWidth, fullHeight, fullRow}
+use Rattle.spec.specs.Picture.{Picture, largestGray, Within, fullWidth, fullHeight, fullRow}
 use Rattle.spec.specs.Stream.{streamCells}
 use Rattle.spec.specs.Refusals.{Check, check, first, either, badState, rowNotDue, drainNotDue, otherPixels, otherOutput, tooFewCells, sizeChecks, startChecks, rowChecks, drainChecks}
 use Rattle.laws.proofs.Lists.{length-tab, tab-agree, length-part}
@@ -21,9 +21,9 @@ use Rattle.laws.proofs.Refusals.{Accepted, lent-refused, lent-accepted, none-bo
 use Rattle.laws.proofs.Exact.{line}
 use Rattle.stream.specs.declared.calls.State.{State}
 use Rattle.stream.specs.Stages.{entering}
-use Rattle.stream.specs.Calls.{Called, stateOf, next, steps, answers, push, drain, Began, start, started}
+use Rattle.stream.specs.Calls.{Called, stateAt, stateOf, next, steps, answers, push, drain, Began, start, started}
 use Rattle.rows.specs.Runs.{Call, aRow, aDrain, answerOf, Yielded, run, Carried, carried, rowOf, rows, outputs, isRow, kinds, pictureRow, whole}
-use Rattle.rows.specs.OnePass.{Bytes, acceptedCalls, left, FirstRows, OnePass, Claim as TheClaim}
+use Rattle.rows.specs.OnePass.{acceptedCalls, left, FirstRows, OnePass, Claim as TheClaim}
 use Rattle.stream.proofs.States.{bad-late, row-ready, drain-ready}
 use Rattle.rows.proofs.Yield.{Honest, row-yielded, cells-length, cells-honest, entering-row, entering-black, start-honest}
 
@@ -107,7 +107,7 @@ module _ (f : Filter) (p : Picture) where
 
   -- the state after e accepted calls
   abbrev at : ℕ → State
-  at e = record { filter = f; width = p .width; height = p .height; emitted = e }
+  at e = stateAt f (p .width) (p .height) e
 
   -- an accepted row call is due, and its row has the picture's width; an accepted drain comes after all rows
   row-due : (e : ℕ) (pixels out cells : List ℕ) → first (checks (aRow pixels out) (at e) cells) ≡ 0 → e < p .height
@@ -157,13 +157,13 @@ module _ (f : Filter) (p : Picture) where
   no-rows (aDrain out ∷ cs) e cells h =
       by-answer (aDrain out) cs e cells (λ ys. rows ys ≡ []) (λ z. no-rows cs (e + 1) _ (omega arith)) (no-rows cs e cells h)
 
-  module _ (pos : 0 < gain r) (light : gain r ≤ 2 ^ 44) (small : (k : ℕ) → getD (p .pixels) k 0 ≤ 255) where
+  module _ (pos : 0 < gain r) (light : gain r ≤ 2 ^ 44) (most : ℕ) (few : most ≤ 65535) (small : Within most p) where
     -- the exact row of an accepted call, and honest cells after it
     yields-row : (c : Call) (e : ℕ) (cells : List ℕ) → entering r (p .width) (pixels-of c) ≡ tab (fullWidth r (p .width)) (line p e) → Honest r p e cells
         → (yields c (at e) cells .out ≡ fullRow r p e) × Honest r p (e + 1) (yields c (at e) cells .cells)
     unfolding yields steps r
     yields-row c e cells d h =
-        (row-yielded r p pos light small e _ cells d h, cells-honest r p pos light small e _ cells d h)
+        (row-yielded r p pos light most few small e _ cells d h, cells-honest r p pos light most few small e _ cells d h)
 
     -- the claim, from e accepted calls on
     Claim : ℕ → List Yielded → Type 0
@@ -467,12 +467,12 @@ module _ (f : Filter) (p : Picture) (cells : List ℕ) (begins : first (startChe
   from-zero : (A : Type 0) (n : ℕ) (g : ℕ → A) → tab n (λ k. g (0 + k)) ≡ tab n g
   from-zero A n g = tab-agree n (λ k. g (0 + k)) g (λ k h. ap g (zero-add k))
 
-  exact-so : Bytes p → (calls : List Call) → let ys = run calls (at f p 0) ready in
+  exact-so : Within largestGray p → (calls : List Call) → let ys = run calls (at f p 0) ready in
       FirstRows p ys → outputs ys ≡ tab (length ys) (fullRow (recipe f) p)
   unfolding Claim r
   exact-so small calls given =
       let ys = run calls (at f p 0) ready in
-      claim f p (good .notZero) (good .light) small calls 0 ready honest (given ∙ sym (from-zero (List ℕ) (length (rows ys)) (pictureRow p)))
+      claim f p (good .notZero) (good .light) largestGray (omega arith) small calls 0 ready honest (given ∙ sym (from-zero (List ℕ) (length (rows ys)) (pictureRow p)))
       ∙ from-zero (List ℕ) (length ys) (fullRow (recipe f) p)
 
   turn-so : (calls : List Call) → let ys = run calls (at f p 0) ready in

@@ -14,10 +14,10 @@ use lib.Seq.{length-take-le, getD-take, getD-drop}
 use borrow.Author.Tests.{le-ltb, ltb-false, eqb-true, eqb-false}
 use Rattle.spec.specs.Words.{tab, total}
 use Rattle.spec.specs.declared.Filter.{Filter}
-use Rattle.spec.specs.Recipe.{Recipe, recipe, order, gain}
-use Rattle.spec.specs.Picture.{Picture, picture, exact, fullWidth, fullHeight, fullRow}
+use Rattle.spec.specs.Recipe.{Recipe, recipe, boxOrder, order, gain}
+use Rattle.spec.specs.Picture.{Picture, picture, Within, exact, fullWidth, fullHeight, fullRow}
 use Rattle.spec.specs.Stream.{boxCells, cascadeCells, streamCells}
-use Rattle.spec.specs.Gray.{gray, grays, sameColumn, sameRow, sameSum, sameGray}
+use Rattle.spec.specs.Gray.{gray, grays, sameColumn, sameRow, sameSum, placeWeight, sameGray}
 use Rattle.spec.specs.Refusals.{first, tooFewCells, sizeChecks, pictureChecks, startChecks, fullSize}
 use Rattle.laws.proofs.Lists.{length-tab, getD-tab, tab-agree, tab-map}
 use Rattle.laws.proofs.Exact.{exact-small}
@@ -25,7 +25,7 @@ use Rattle.laws.proofs.Refusals.{Sized, AcceptedPicture, grown-most, none-both,
 use Rattle.filter.specs.declared.checks.Measures.{Measures}
 use Rattle.filter.proofs.Refusal.{Known}
 use Rattle.stream.specs.declared.calls.State.{State}
-use Rattle.rows.specs.OnePass.{Bytes}
+use Rattle.stream.specs.Calls.{stateAt}
 use Rattle.rows.specs.Streaming.{Streamed}
 use Rattle.rows.specs.Taking.{Taken}
 
@@ -54,11 +54,11 @@ module _ (r : Recipe) (p : Picture) (j : ℕ) (row : List ℕ) (is : row ≡ ful
         ∙ ap₂ (λ l k. getD l k 0) is place
         ∙ getD-tab (p .width + order (r .rows)) (λ k. exact r p k (sameRow r j)) (i + order (r .rows) / 2) 0 (omega arith)
 
-    pub taken-bounded : Bytes p → (i : ℕ) → getD taken i 0 ≤ 255 * gain r
+    pub taken-bounded : (most : ℕ) → Within most p → (i : ℕ) → getD taken i 0 ≤ most * gain r
     unfolding sameSum
-    taken-bounded small i =
+    taken-bounded most small i =
         elim (decLt i (p .width)) [
-          | yes h ↦ le-trans (le-of-eq (taken-at i h)) (exact-small r p 255 small (sameColumn r i) (sameRow r j))
+          | yes h ↦ le-trans (le-of-eq (taken-at i h)) (exact-small r p most small (sameColumn r i) (sameRow r j))
           | no h ↦ omega (arith, List·getD-eq-default taken 0 (past i (omega arith)))
         ]
       where
@@ -67,7 +67,7 @@ module _ (r : Recipe) (p : Picture) (j : ℕ) (row : List ℕ) (is : row ≡ ful
 
     -- their greys
     pub taken-grays : grays (gain r) taken ≡ tab (p .width) (λ i. sameGray r p i j)
-    unfolding sameGray grays
+    unfolding sameGray placeWeight grays
     taken-grays =
         sym (tab-map (gray (gain r)) 0 taken)
         ∙ ap (λ k. tab k (λ i. gray (gain r) (getD taken i 0))) taken-length
@@ -85,7 +85,7 @@ box-enough n = go (ltb n 2) (eqb n 2) (λ e. ltb-false n 2 e) (λ e. eqb-true n 
     go false false two is other = omega (arith, two refl)
 
 cascade-enough : (ns : List ℕ) → cascadeCells ns ≤ 2 * order ns
-unfolding cascadeCells order total
+unfolding cascadeCells boxOrder order total
 cascade-enough [] = omega arith
 cascade-enough (n ∷ ns) = omega (arith, box-enough n, cascade-enough ns)
 
@@ -150,7 +150,7 @@ is-taken f w h pixels k s cells st left row ok above half wide =
     (record {
       picture = ok;
       streamed =
-          subst (λ n. Streamed f (picture w h pixels) n (record { filter = f; width = w; height = h; emitted = k }) cells) above
+          subst (λ n. Streamed f (picture w h pixels) n (stateAt f w h k) cells) above
           (subst (λ (t : State). Streamed f (picture w h pixels) k t cells) (st .is) st);
       half = half;
       wide = wide;

@@ -3,14 +3,14 @@
 use mathlib.Core.Path.{_≡_, refl, sym, ap, subst, _∙_}
 use mathlib.Core.List.{List, [], _∷_, _++_}
 use Prim.Native.Nat.{ℕ, _+_, _*_, _%_, _^_, _≤_, _<_}
-use native.Mathlib.Nat.{le-trans, le-of-eq, mul-le-mul-left}
+use native.Mathlib.Nat.{le-trans, le-of-eq, mul-le-mul}
 use native.Mathlib.Decide.{decLt}
 use native.Mathlib.Omega.{arith}
 use lib.ListN.{length, getD, take, drop, length-append, length-drop, replicate, length-replicate, getD-replicate, List·getD-append}
 use lib.Seq.{length-take-le, drop-append-seam, getD-drop}
 use Rattle.spec.specs.Words.{tab, part, total}
 use Rattle.spec.specs.Recipe.{Recipe, gain}
-use Rattle.spec.specs.Picture.{Picture, exact, fullWidth, fullRow}
+use Rattle.spec.specs.Picture.{Picture, Within, exact, fullWidth, fullRow}
 use Rattle.spec.specs.Stream.{boxCells, cascadeCells, streamCells}
 use Rattle.laws.proofs.Lists.{length-tab, getD-tab, getD-tab-past, tab-agree, total-scale}
 use Rattle.laws.proofs.Kernels.{at, holds-tab}
@@ -76,10 +76,10 @@ module _ (r : Recipe) (p : Picture) where
       let long : length (second .cells) ≡ length (drop rc cells) = ap (λ (x : Worked). length (x .cells)) (sym same) ∙ two .1 in
       omega (arith, length-append (first .cells) (second .cells), one .1, size, long, length-drop rc cells, room .0)
 
-  module _ (pos : 0 < gain r) (light : gain r ≤ 2 ^ 44) (small : (k : ℕ) → getD (p .pixels) k 0 ≤ 255) where
+  module _ (pos : 0 < gain r) (light : gain r ≤ 2 ^ 44) (most : ℕ) (few : most ≤ 65535) (small : Within most p) where
     exact-fits : (i j : ℕ) → exact r p i j % 2 ^ 64 ≡ exact r p i j
     exact-fits i j =
-        let h : exact r p i j ≤ 255 * 2 ^ 44 = le-trans (exact-small r p 255 small i j) (mul-le-mul-left 255 light) in
+        let h : exact r p i j ≤ 65535 * 2 ^ 44 = le-trans (exact-small r p most small i j) (mul-le-mul few light) in
         omega arith
 
     -- the row that enters
@@ -88,7 +88,7 @@ module _ (r : Recipe) (p : Picture) where
     entered e row d =
         record {
           wide = ap length d ∙ length-tab W (line p e);
-          values = λ k h. ap (λ l. getD l k 0) d ∙ getD-tab W (line p e) k 0 h ∙ omega (arith, pixel-small r p 255 small k e);
+          values = λ k h. ap (λ l. getD l k 0) d ∙ getD-tab W (line p e) k 0 h ∙ omega (arith, pixel-small r p most small k e);
         }
 
     module _ (e : ℕ) (row cells : List ℕ) (is : row ≡ tab W (line p e)) (h : Honest e cells) where

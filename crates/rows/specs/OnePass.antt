@@ -4,18 +4,14 @@ use mathlib.Core.Bool.{_||_}
 use mathlib.Core.List.{List, [], _∷_}
 use Prim.Native.Nat.{ℕ, _≤_}
 use lib.Dec.{leb, ltb}
-use lib.ListN.{length, getD}
+use lib.ListN.{length}
 use Rattle.spec.specs.Words.{tab}
 use Rattle.spec.specs.declared.Filter.{Filter}
 use Rattle.spec.specs.Recipe.{recipe, order}
-use Rattle.spec.specs.Picture.{Picture, fullWidth, fullHeight, fullRow}
+use Rattle.spec.specs.Picture.{Picture, largestGray, Within, fullWidth, fullHeight, fullRow}
 use Rattle.spec.specs.Refusals.{check, first, otherPixels, otherOutput}
 use Rattle.stream.specs.Calls.{start}
 use Rattle.rows.specs.Runs.{Call, aRow, aDrain, answerOf, Yielded, run, Carried, carried, rows, outputs, kinds, pictureRow, whole}
-
--- pixels are bytes
-abbrev pub Bytes : Picture → Type 0
-Bytes p = (k : ℕ) → getD (p .pixels) k 0 ≤ 255
 
 -- the accepted calls of a list, and what the list leaves, after a start of a recipe and a picture's sides with any cells
 unfoldable pub acceptedCalls : Filter → Picture → List ℕ → List Call → List Yielded
@@ -35,7 +31,7 @@ FirstRows p ys = rows ys ≡ tab (length (rows ys)) (pictureRow p)
 pub record OnePass (f : Filter) (p : Picture) (cells : List ℕ) : Type 0 where
   -- The k-th accepted call leaves in its output grown row k - 1 of the exact sums, for every list of calls, refused ones included, and
   -- every picture whose first rows, in order, are those of the accepted row calls.
-  pub exactRows : Bytes p → (calls : List Call) → FirstRows p (acceptedCalls f p cells calls)
+  pub exactRows : Within largestGray p → (calls : List Call) → FirstRows p (acceptedCalls f p cells calls)
       → outputs (acceptedCalls f p cells calls) ≡ tab (length (acceptedCalls f p cells calls)) (fullRow (recipe f) p)
   -- Row calls are accepted first, as many as the picture has rows, then drains, and nothing after the last grown row.
   pub inTurn : (calls : List Call) → kinds (acceptedCalls f p cells calls) ≡ tab (length (acceptedCalls f p cells calls)) (λ k. ltb k (p .height))
@@ -53,7 +49,7 @@ pub record OnePass (f : Filter) (p : Picture) (cells : List ℕ) : Type 0 where
   -- All rows of the picture and then ry drains, with outputs of the grown width: every row is accepted, and all grown rows are yielded.
   pub rowsTaken : (outs : ℕ → List ℕ) → ((k : ℕ) → length (outs k) ≡ fullWidth (recipe f) (p .width))
       → rows (acceptedCalls f p cells (whole p (order (recipe f .columns)) outs)) ≡ tab (p .height) (pictureRow p)
-  pub allRows : Bytes p → (outs : ℕ → List ℕ) → ((k : ℕ) → length (outs k) ≡ fullWidth (recipe f) (p .width))
+  pub allRows : Within largestGray p → (outs : ℕ → List ℕ) → ((k : ℕ) → length (outs k) ≡ fullWidth (recipe f) (p .width))
       → outputs (acceptedCalls f p cells (whole p (order (recipe f .columns)) outs)) ≡ tab (fullHeight (recipe f) (p .height)) (fullRow (recipe f) p)
 
 -- The claim: so it is after every accepted start, with any lent cells.

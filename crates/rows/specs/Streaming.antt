@@ -9,7 +9,7 @@ use Rattle.spec.specs.Recipe.{recipe}
 use Rattle.spec.specs.Picture.{Picture, picture, fullWidth, fullHeight, fullRow}
 use Rattle.laws.proofs.Refusals.{Sized}
 use Rattle.stream.specs.declared.calls.State.{State}
-use Rattle.stream.specs.Calls.{start}
+use Rattle.stream.specs.Calls.{stateAt, start}
 use Rattle.rows.specs.Runs.{Call, rows, pictureRow}
 use Rattle.rows.specs.OnePass.{acceptedCalls, left}
 
@@ -24,7 +24,7 @@ pub record Streamed (f : Filter) (p : Picture) (k : ℕ) (s : State) (cells : Li
   pub many : length (acceptedCalls f p given calls) ≡ k
   pub taken : rows (acceptedCalls f p given calls) ≡ tab (min k (p .height)) (pictureRow p)
   pub sides : Sized (p .width) (p .height)
-  pub is : s ≡ record { filter = f; width = p .width; height = p .height; emitted = k }
+  pub is : s ≡ stateAt f (p .width) (p .height) k
 
 -- a picture of a state's sides
 abbrev pub pictureOf : State → List ℕ → Picture

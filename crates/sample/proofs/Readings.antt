@@ -10,8 +10,8 @@ use lib.ListN.{length, getD}
 use borrow.Author.Tests.{le-ltb}
 use Rattle.spec.specs.Words.{somewhere}
 use Rattle.spec.specs.Recipe.{Recipe, gain}
-use Rattle.spec.specs.Picture.{Picture}
-use Rattle.spec.specs.Gray.{gray, grays, Reading, Choice, sameColumn, sameRow, sameSum, expressed, reading}
+use Rattle.spec.specs.Picture.{Picture, largestGray, Within}
+use Rattle.spec.specs.Gray.{gray, grays, Reading, Choice, sameColumn, sameRow, sameSum, placeWeight, expressed, reading}
 use Rattle.spec.specs.Refusals.{accepted, refused, first, answer, tooBright, recipeChecks, readingChecks}
 use Rattle.laws.proofs.Exact.{exact-small}
 use Rattle.laws.proofs.Refusals.{read-refused, read-accepted, answer-refused, answer-accepted, lent-accepted}
@@ -26,11 +26,11 @@ use Rattle.gray.specs.Rounded.{Rounded}
 use Rattle.gray.proofs.Grays.{by-brightness}
 
 -- the grey of a sum, by rounding a row of one
-pub only-gray : (r : Recipe) (s number : ℕ) (out new : List ℕ) → first (recipeChecks r) ≡ 0 → s ≤ 255 * gain r → length out ≡ 1
+pub only-gray : (r : Recipe) (s number : ℕ) (out new : List ℕ) → first (recipeChecks r) ≡ 0 → s ≤ largestGray * gain r → length out ≡ 1
     → Rounded r (s ∷ []) out number new → getD new 0 0 ≡ gray (gain r) s
 unfolding tooBright somewhere grays
 only-gray r s number out new none small one told =
-    let dark : false ≡ tooBright (gain r) (s ∷ []) = sym (ap (λ b. b || false) (le-ltb (255 * gain r) s small)) in
+    let dark : false ≡ tooBright largestGray (gain r) (s ∷ []) = sym (ap (λ b. b || false) (le-ltb (largestGray * gain r) s small)) in
     ap (λ l. getD l 0 0) (told .grays ∙ lent-accepted _ _ out (by-brightness r (s ∷ []) out none one false dark))
 
 module _ (r : Recipe) (p : Picture) (i j : ℕ) (x : Point) (told : pointTold x ≡ answer (readingChecks r p i j) (sameSum r p i j)) where
@@ -49,16 +49,16 @@ module _ (r : Recipe) (p : Picture) (i j : ℕ) (x : Point) (told : pointTold x 
     measures = known r m is (number-is r m is ∙ is-inside r p i j (sum .0) .none)
 
     -- an accepted recipe, its weight, and a sum of bytes
-    pub can-read : ((k : ℕ) → getD (p .pixels) k 0 ≤ 255)
-        → (first (recipeChecks r) ≡ 0) × (m .gain ≡ gain r) × (m .gain ≤ 2 ^ 44) × (s ≤ 255 * m .gain)
+    pub can-read : Within largestGray p
+        → (first (recipeChecks r) ≡ 0) × (m .gain ≡ gain r) × (m .gain ≤ 2 ^ 44) × (s ≤ largestGray * m .gain)
     unfolding sameSum
     can-read small =
         let k = measures in
-        let most = exact-small r p 255 small (sameColumn r i) (sameRow r j) in
+        let most = exact-small r p largestGray small (sameColumn r i) (sameRow r j) in
         (k .none, k .weight, omega (arith, k .weight, k .accepted .light), omega (arith, k .weight, sum .1, most))
 
     pub is-read : (c : Choice) (v : Reading) → v ≡ expressed c (m .gain) s → accepted v ≡ answer (readingChecks r p i j) (reading c r p i j)
-    unfolding reading
+    unfolding reading placeWeight
     is-read c v h =
         ap accepted (h ∙ ap₂ (expressed c) (measures .weight) (sum .1))
         ∙ sym (answer-accepted _ (reading c r p i j) (sum .0))

@@ -2,7 +2,7 @@
 ghost use mathlib.Core.Path.{_≡_};
 ghost use Prim.Native.Nat.{_*_, _^_, _≤_};
 ghost use Rattle.spec.specs.Recipe.{recipe, gain};
-ghost use Rattle.spec.specs.Picture.{picture};
+ghost use Rattle.spec.specs.Picture.{picture, largestGray};
 ghost use Rattle.spec.specs.Gray.{gray as grayOf, ratio as ratioOf, expressed, reading as readingOf};
 ghost use Rattle.spec.specs.Refusals.{first, answer, recipeChecks, readingChecks};
 ghost use Rattle.sample.specs.Sampled.{chosen, sampleTold, sampledTold};
@@ -42,7 +42,7 @@ fn mean(sum: u64, weight: u64) -> f64
 
 // The grey of a sum, as rounding has it for a row of one sum.
 fn shade(filter: Filter, sum: u64) -> u8
-    requires { ⌜ (first (recipeChecks (recipe filter)) ≡ 0) × (sum ≤ 255 * gain (recipe filter)) ⌝ }
+    requires { ⌜ (first (recipeChecks (recipe filter)) ≡ 0) × (sum ≤ largestGray * gain (recipe filter)) ⌝ }
     ensures { λ r. ⌜ r ≡ grayOf (gain (recipe filter)) sum ⌝ }
 {
     let sums = [sum];
@@ -53,7 +53,7 @@ fn shade(filter: Filter, sum: u64) -> u8
 
 // A sum as the quantity that is chosen.
 fn express(filter: Filter, sum: u64, weight: u64, quantity: Quantity) -> Sample
-    requires { ⌜ (first (recipeChecks (recipe filter)) ≡ 0) × (weight ≡ gain (recipe filter)) × (weight ≤ 2 ^ 44) × (sum ≤ 255 * weight) ⌝ }
+    requires { ⌜ (first (recipeChecks (recipe filter)) ≡ 0) × (weight ≡ gain (recipe filter)) × (weight ≤ 2 ^ 44) × (sum ≤ largestGray * weight) ⌝ }
     ensures { λ r. ⌜ sampleTold r ≡ expressed (chosen quantity) weight sum ⌝ }
 {
     match quantity {

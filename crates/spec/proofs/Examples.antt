@@ -1,14 +1,15 @@
 -- Examples of definitions that no ◆ case reaches, each computed: the numbers of each call's checks in their order, each condition on both
--- sides of its limit, the cells and the cost of the one pass, and counts of widths.
+-- sides of its limit, the cells and the cost of the one pass, counts of widths, recipes that are told apart, and what filters hold.
 -- Assumes nothing.
 use mathlib.Core.Path.{_≡_, refl}
 use mathlib.Core.Bool.{true, false}
 use mathlib.Core.List.{List, [], _∷_, _++_, map}
 use Prim.Native.Nat.{ℕ}
 use lib.ListN.{replicate}
-use Rattle.spec.specs.Words.{sum, tab, part, total, product, somewhere, keep, occurs}
-use Rattle.spec.specs.Same.{struck}
-use Rattle.spec.specs.Recipe.{Recipe, order, gain}
+use Rattle.spec.specs.declared.Filter.{Filter}
+use Rattle.spec.specs.Words.{sum, tab, part, total, product, somewhere, everywhere, keep, occurs}
+use Rattle.spec.specs.Same.{struck, sameCounts, equivalent}
+use Rattle.spec.specs.Recipe.{Recipe, widths, recipe, held, heldFilter, boxOrder, order, weight, gain}
 use Rattle.spec.specs.Picture.{Picture, fullWidth, fullHeight}
 use Rattle.spec.specs.Stream.{State, boxCells, cascadeCells, streamCells, boxCost, cascadeCost, rowCost}
 use Rattle.spec.specs.Job.{mark, version, read16, jobLength, jobRecipe, jobWidth, jobHeight}
@@ -87,14 +88,16 @@ pub limits :
     ∷ Refusals.rowNotDue (stateOf [] (twos 1) 2) ∷ Refusals.rowNotDue (stateOf [] (twos 1) 3)
     ∷ Refusals.drainNotDue (stateOf [] (twos 1) 3) ∷ Refusals.drainNotDue (stateOf [] (twos 1) 2) ∷ Refusals.drainNotDue (stateOf [] (twos 1) 4)
     -- 11
-    ∷ Refusals.tooBright 4 (1020 ∷ 0 ∷ []) ∷ Refusals.tooBright 4 (0 ∷ 1021 ∷ [])
+    ∷ Refusals.tooBright 255 4 (1020 ∷ 0 ∷ []) ∷ Refusals.tooBright 255 4 (0 ∷ 1021 ∷ []) ∷ Refusals.tooBright 7 4 (0 ∷ 28 ∷ []) ∷ Refusals.tooBright 7 4 (29 ∷ 0 ∷ [])
     -- 12, 13
     ∷ Refusals.parityDiffers (recipeOf (twos 1) (twos 2)) (recipeOf (twos 3) []) ∷ Refusals.parityDiffers (recipeOf (twos 1) []) (recipeOf [] [])
     ∷ Refusals.parityDiffers (recipeOf [] (twos 1)) (recipeOf [] [])
     ∷ Refusals.productTooHeavy (recipeOf (twos 22) []) (recipeOf [] (twos 22)) ∷ Refusals.productTooHeavy (recipeOf (twos 22) []) (recipeOf (twos 22) (twos 1))
-    -- 14: the example, cut to 6 bytes, with another third byte, version, first byte, second byte; cut within the sides; a byte more and a byte less
+    -- 14: the example, cut to 6 bytes, with another third byte, version 2, first byte, second byte, version 0, version 257; cut within the
+    -- sides; a byte more and a byte less
     ∷ Refusals.badHead exampleJob ∷ Refusals.badHead (part 0 6 exampleJob) ∷ Refusals.badHead (part 0 2 exampleJob ++ part 1 12 exampleJob) ∷ Refusals.badHead (part 0 3 exampleJob ++ part 5 9 exampleJob)
     ∷ Refusals.badHead (0x43 ∷ part 1 13 exampleJob) ∷ Refusals.badHead (part 0 1 exampleJob ++ part 0 1 exampleJob ++ part 2 12 exampleJob)
+    ∷ Refusals.badHead (part 0 3 exampleJob ++ (0 ∷ 0 ∷ part 5 9 exampleJob)) ∷ Refusals.badHead (part 0 4 exampleJob ++ (1 ∷ part 5 9 exampleJob))
     ∷ Refusals.cutShort (part 0 13 exampleJob) ∷ Refusals.cutShort (part 0 12 exampleJob)
     ∷ Refusals.otherTotal exampleJob ∷ Refusals.otherTotal (part 0 15 exampleJob) ∷ Refusals.otherTotal (part 0 13 exampleJob)
     ∷ Refusals.overProgram (replicate 65536 0) ∷ Refusals.overProgram (replicate 65537 0)
@@ -112,26 +115,80 @@ pub limits :
     ∷ false ∷ true ∷ true
     ∷ false ∷ true
     ∷ false ∷ true ∷ true
-    ∷ false ∷ true
+    ∷ false ∷ true ∷ false ∷ true
     ∷ false ∷ true
     ∷ true
     ∷ false ∷ true
     ∷ false ∷ true ∷ true ∷ true
+    ∷ true ∷ true
     ∷ true ∷ true
     ∷ false ∷ true
     ∷ false ∷ true ∷ true
     ∷ false ∷ true
     ∷ false ∷ true ∷ true
     ∷ []
-unfolding sum tab part total product somewhere order gain fullWidth fullHeight mark version read16 jobRecipe jobWidth jobHeight jobLength Refusals.tooLong Refusals.zeroWidth Refusals.tooFar Refusals.tooHeavy Refusals.badSide Refusals.badSides Refusals.otherPixels Refusals.otherOutput Refusals.tooFewCells Refusals.badState Refusals.rowNotDue Refusals.drainNotDue Refusals.tooBright Refusals.oddApart Refusals.parityDiffers Refusals.productTooHeavy Refusals.badHead Refusals.cutShort Refusals.otherTotal Refusals.overProgram Refusals.outside
+unfolding sum tab part total product somewhere boxOrder order weight gain fullWidth fullHeight mark version read16 jobRecipe jobWidth jobHeight jobLength Refusals.tooLong Refusals.zeroWidth Refusals.tooFar Refusals.tooHeavy Refusals.badSide Refusals.badSides Refusals.otherPixels Refusals.otherOutput Refusals.tooFewCells Refusals.badState Refusals.rowNotDue Refusals.drainNotDue Refusals.tooBright Refusals.oddApart Refusals.parityDiffers Refusals.productTooHeavy Refusals.badHead Refusals.cutShort Refusals.otherTotal Refusals.overProgram Refusals.outside
 limits = refl
 
 -- rows 1,2,3, columns 2 on a width of 4: the grown width is 7, the rows need 4 cells and cost 3, the columns 1 and 1
 pub one-pass : streamCells (recipeOf (1 ∷ 2 ∷ 3 ∷ []) (2 ∷ [])) 4 ∷ rowCost (recipeOf (1 ∷ 2 ∷ 3 ∷ []) (2 ∷ [])) 4 ∷ [] ≡ 11 ∷ 28 ∷ []
-unfolding total order fullWidth boxCells cascadeCells streamCells boxCost cascadeCost rowCost
+unfolding total boxOrder order fullWidth boxCells cascadeCells streamCells boxCost cascadeCost rowCost
 one-pass = refl
 
 -- how often a width occurs, with widths of 1 struck out and without
 pub counted : occurs 2 (2 ∷ 1 ∷ 3 ∷ 2 ∷ []) ∷ occurs 1 (struck (2 ∷ 1 ∷ [])) ∷ occurs 2 (struck (2 ∷ 1 ∷ [])) ∷ [] ≡ 2 ∷ 0 ∷ 1 ∷ []
 unfolding total keep occurs struck
 counted = refl
+
+-- recipes that differ in their columns alone, lists contained in one another, and the same widths on the other axis: all told apart
+pub told-apart :
+    equivalent (recipeOf (2 ∷ []) (2 ∷ [])) (recipeOf (2 ∷ []) (3 ∷ []))
+    ∷ equivalent (recipeOf (2 ∷ 3 ∷ []) []) (recipeOf (2 ∷ []) [])
+    ∷ equivalent (recipeOf (2 ∷ []) []) (recipeOf (2 ∷ 3 ∷ []) [])
+    ∷ equivalent (recipeOf [] (2 ∷ 3 ∷ [])) (recipeOf [] (3 ∷ []))
+    ∷ equivalent (recipeOf (2 ∷ []) []) (recipeOf [] (2 ∷ []))
+    ∷ equivalent (recipeOf (2 ∷ []) (3 ∷ 1 ∷ 2 ∷ [])) (recipeOf (1 ∷ 2 ∷ []) (2 ∷ 3 ∷ []))
+    ∷ []
+    ≡ false ∷ false ∷ false ∷ false ∷ false ∷ true ∷ []
+unfolding total everywhere keep occurs struck sameCounts equivalent
+told-apart = refl
+
+-- the coefficients of 3,2 need a slice of 4: their reach is 3
+pub coefficient-lengths :
+    Refusals.first (Refusals.kernelChecks (3 ∷ 2 ∷ []) 4) ∷ Refusals.first (Refusals.kernelChecks (3 ∷ 2 ∷ []) 3) ∷ Refusals.first (Refusals.kernelChecks (3 ∷ 2 ∷ []) 5) ∷ []
+    ≡ 0 ∷ 7 ∷ 7 ∷ []
+unfolding total product somewhere boxOrder order weight gain check Refusals.tooLong Refusals.zeroWidth Refusals.tooFar Refusals.tooHeavy Refusals.otherOutput Refusals.first Refusals.recipeChecks Refusals.alone Refusals.kernelChecks
+coefficient-lengths = refl
+
+-- what is lent holds the new content where no condition holds, and what it was where one does; the answer is the value, or the number of
+-- the first
+pub lent-each-way :
+    Refusals.lent {A = ℕ} (check false 6 ∷ check false 7 ∷ []) 1 2 ∷ Refusals.lent {A = ℕ} (check false 6 ∷ check true 7 ∷ []) 1 2 ∷ [] ≡ 1 ∷ 2 ∷ []
+unfolding check Refusals.first Refusals.either Refusals.lent
+lent-each-way = refl
+
+pub answer-each-way :
+    Refusals.answer {A = ℕ} (check false 6 ∷ []) 1 ∷ Refusals.answer {A = ℕ} (check true 6 ∷ check true 7 ∷ []) 1 ∷ [] ≡ Refusals.accepted 1 ∷ Refusals.refused 6 ∷ []
+unfolding check Refusals.first Refusals.either Refusals.answer
+answer-each-way = refl
+
+-- a filter with unlike lists, and bytes past its counts that mean nothing: its recipe, and that recipe as a filter holds it
+abbrev unlike : Filter
+unlike =
+    record {
+      rows = record { count = 2; widths = 3 ∷ 2 ∷ replicate 46 9 };
+      columns = record { count = 1; widths = 2 ∷ replicate 47 8 };
+    }
+
+pub recipe-held : recipe unlike ≡ recipeOf (3 ∷ 2 ∷ []) (2 ∷ [])
+unfolding tab part widths recipe
+recipe-held = refl
+
+pub filter-held :
+    heldFilter (recipeOf (3 ∷ 2 ∷ []) (2 ∷ []))
+    ≡ record {
+      rows = record { count = 2; widths = 3 ∷ 2 ∷ replicate 46 0 };
+      columns = record { count = 1; widths = 2 ∷ replicate 47 0 };
+    }
+unfolding tab part held heldFilter
+filter-held = refl

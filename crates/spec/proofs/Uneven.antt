@@ -9,7 +9,7 @@ use lib.Ieee.{binary64}
 use lib.IntN.{pos, negsuc}
 use lib.ListN.{replicate, take}
 use Rattle.spec.specs.Words.{sum, tab, part, total, product, somewhere}
-use Rattle.spec.specs.Recipe.{Recipe, box, convolve, kernel, order, gain}
+use Rattle.spec.specs.Recipe.{Recipe, box, convolve, kernel, boxOrder, order, weight, gain}
 use Rattle.spec.specs.Picture.{Picture, picture, pixel, pixelBack, fullWidth, fullHeight, fullSides, exact, fullRow, full}
 use Rattle.spec.specs.Stream.{State, boxCells, cascadeCells, streamCells}
 use Rattle.spec.specs.Gray
@@ -38,34 +38,37 @@ pub sums :
     ≡ 70 ∷ 150 ∷ 180 ∷ 130 ∷ 50 ∷ 20
     ∷ 110 ∷ 230 ∷ 350 ∷ 350 ∷ 230 ∷ 110
     ∷ 40 ∷ 80 ∷ 170 ∷ 220 ∷ 180 ∷ 90 ∷ []
-unfolding sum tab total box convolve kernel order pixel pixelBack fullWidth fullHeight exact fullRow full flatten
+unfolding sum tab total box convolve kernel boxOrder order pixel pixelBack fullWidth fullHeight exact fullRow full flatten
 sums = refl
 
 -- a picture that is higher than wide
 pub tall : full (recipeOf [] (2 ∷ [])) (picture 1 2 (5 ∷ 7 ∷ [])) ≡ 5 ∷ 12 ∷ 7 ∷ []
-unfolding sum tab total box convolve kernel order pixel pixelBack fullWidth fullHeight exact fullRow full flatten
+unfolding sum tab total box convolve kernel boxOrder order pixel pixelBack fullWidth fullHeight exact fullRow full flatten
 tall = refl
 
 -- the grown sides
 pub sides : fullSides uneven 3 2 ≡ record { width = 6; height = 3 }
-unfolding total order fullWidth fullHeight fullSides
+unfolding total boxOrder order fullWidth fullHeight fullSides
 sides = refl
 
 -- the same-size blur, and the difference both ways
 pub blurred : Gray.places wall (Gray.sameSum uneven wall) ∷ Gray.places wall (Gray.sameGray uneven wall) ∷ []
     ≡ (150 ∷ 180 ∷ 130 ∷ 230 ∷ 350 ∷ 350 ∷ []) ∷ (13 ∷ 15 ∷ 11 ∷ 19 ∷ 29 ∷ 29 ∷ []) ∷ []
-unfolding sum tab total product box convolve kernel order gain pixel pixelBack exact flatten Gray.gray Gray.places Gray.sameColumn Gray.sameRow Gray.sameSum Gray.sameGray
+unfolding sum tab total product box convolve kernel boxOrder order weight gain pixel pixelBack exact flatten Gray.gray Gray.places Gray.sameColumn Gray.sameRow Gray.sameSum Gray.placeWeight Gray.sameGray
 blurred = refl
 
 pub differences : Gray.places wall (Gray.difference uneven other wall) ∷ Gray.places wall (Gray.difference other uneven wall) ∷ []
     ≡ (negsuc 0 ∷ pos 0 ∷ negsuc 3 ∷ pos 5 ∷ pos 14 ∷ pos 14 ∷ []) ∷ (pos 1 ∷ pos 0 ∷ pos 4 ∷ negsuc 4 ∷ negsuc 13 ∷ negsuc 13 ∷ []) ∷ []
-unfolding sum tab total product box convolve kernel order gain pixel pixelBack exact flatten Gray.places Gray.sameColumn Gray.sameRow Gray.sameSum Gray.nearest Gray.nearestDifference Gray.difference
+unfolding sum tab total product box convolve kernel boxOrder order weight gain pixel pixelBack exact flatten Gray.places Gray.sameColumn Gray.sameRow Gray.sameSum Gray.nearest Gray.nearestDifference Gray.difference
 differences = refl
 
--- the three readings at column 2, row 0
-pub readings : Gray.reading asGray uneven wall 2 0 ∷ Gray.reading asSum uneven wall 2 0 ∷ Gray.reading asQuotient uneven wall 2 0 ∷ []
-    ≡ grayReading 11 ∷ sumReading 130 ∷ quotientReading (Ieee.ofBits binary64 0x4025_AAAA_AAAA_AAAB) ∷ []
-unfolding sum tab total product box convolve kernel order gain pixel pixelBack exact Gray.gray Gray.sameColumn Gray.sameRow Gray.sameSum Gray.sameGray Gray.float Gray.ratio Gray.sameQuotient Gray.reading Ieee.ofInt Ieee.div Ieee.round Ieee.units Ieee.odd Ieee.size Ieee.climb Ieee.span Ieee.ofBits Ieee.ofFields Gray.expressed
+-- the three readings at column 2, row 0, and the quotient there
+pub readings :
+    Gray.reading asGray uneven wall 2 0 ∷ Gray.reading asSum uneven wall 2 0 ∷ Gray.reading asQuotient uneven wall 2 0
+    ∷ quotientReading (Gray.sameQuotient uneven wall 2 0) ∷ []
+    ≡ grayReading 11 ∷ sumReading 130 ∷ quotientReading (Ieee.ofBits binary64 0x4025_AAAA_AAAA_AAAB)
+    ∷ quotientReading (Ieee.ofBits binary64 0x4025_AAAA_AAAA_AAAB) ∷ []
+unfolding sum tab total product box convolve kernel boxOrder order weight gain pixel pixelBack exact Gray.gray Gray.sameColumn Gray.sameRow Gray.sameSum Gray.placeWeight Gray.sameGray Gray.float Gray.ratio Gray.sameQuotient Gray.reading Ieee.ofInt Ieee.div Ieee.round Ieee.units Ieee.odd Ieee.size Ieee.climb Ieee.span Ieee.ofBits Ieee.ofFields Gray.expressed
 readings = refl
 
 -- the scale card of rows 5, columns 2,2
@@ -77,7 +80,7 @@ pub card : Gray.scaleCard (recipeOf (5 ∷ []) (2 ∷ 2 ∷ []))
       rowVariance = Ieee.ofBits binary64 0x4000_0000_0000_0000;
       columnVariance = Ieee.ofBits binary64 0x3FE0_0000_0000_0000;
     }
-unfolding total product order gain Gray.squares Gray.variance Gray.float Gray.ratio Gray.scaleCard Ieee.ofInt Ieee.div Ieee.round Ieee.units Ieee.odd Ieee.size Ieee.climb Ieee.span Ieee.ofBits Ieee.ofFields
+unfolding total product boxOrder order weight gain Gray.boxSquare Gray.squares Gray.variance Gray.float Gray.ratio Gray.scaleCard Ieee.ofInt Ieee.div Ieee.round Ieee.units Ieee.odd Ieee.size Ieee.climb Ieee.span Ieee.ofBits Ieee.ofFields
 card = refl
 
 -- the bytes of the job, written and read, and sides above 255
@@ -106,7 +109,7 @@ pub printed :
     ∷ 52 ∷ 48 ∷ 32 ∷ 56 ∷ 48 ∷ 32 ∷ 49 ∷ 55 ∷ 48 ∷ 32 ∷ 50 ∷ 50 ∷ 48 ∷ 32 ∷ 49 ∷ 56 ∷ 48 ∷ 32 ∷ 57 ∷ 48 ∷ 10 ∷ [])
     ∷ (114 ∷ 101 ∷ 102 ∷ 117 ∷ 115 ∷ 101 ∷ 100 ∷ 32 ∷ 49 ∷ 52 ∷ 10 ∷ [])
     ∷ []
-unfolding sum tab part total product somewhere box convolve kernel order gain pixel pixelBack fullWidth fullHeight exact fullRow flatten boxCells cascadeCells streamCells Job.mark Job.version Job.read16 Job.jobLength Job.jobRecipe Job.jobWidth Job.jobHeight Job.jobOffset Job.jobPicture Refusals.tooLong Refusals.zeroWidth Refusals.tooFar Refusals.tooHeavy Refusals.badSide Refusals.badSides Refusals.tooFewCells Refusals.badHead Refusals.cutShort Refusals.otherTotal Refusals.overProgram Refusals.check Refusals.first Refusals.either Refusals.recipeChecks Refusals.sizeChecks Refusals.jobChecks Refusals.programChecks Program.decimalDigits Program.decimal Program.line Program.sumsPrinted Program.refusalPrinted Program.printed
+unfolding sum tab part total product somewhere box convolve kernel boxOrder order weight gain pixel pixelBack fullWidth fullHeight exact fullRow flatten boxCells cascadeCells streamCells Job.mark Job.version Job.read16 Job.jobLength Job.jobRecipe Job.jobWidth Job.jobHeight Job.jobOffset Job.jobPicture Refusals.tooLong Refusals.zeroWidth Refusals.tooFar Refusals.tooHeavy Refusals.badSide Refusals.badSides Refusals.tooFewCells Refusals.badHead Refusals.cutShort Refusals.otherTotal Refusals.overProgram Refusals.check Refusals.first Refusals.either Refusals.recipeChecks Refusals.sizeChecks Refusals.jobChecks Refusals.programChecks Program.decimalDigits Program.decimal Program.line Program.sumsPrinted Program.refusalPrinted Program.printed
 printed = refl
 
 pub ten : Program.decimal 10 ≡ 49 ∷ 48 ∷ []
@@ -212,5 +215,5 @@ pub answers :
     ∷ 0 ∷ 14 ∷ 1 ∷ 14 ∷ 2 ∷ 5 ∷ 14
     ∷ 0 ∷ 8
     ∷ []
-unfolding sum tab part total product somewhere order gain fullWidth fullHeight boxCells cascadeCells streamCells Job.low16 Job.mark Job.version Job.read16 Job.jobBytes Job.jobLength Job.jobRecipe Job.jobWidth Job.jobHeight Refusals.tooLong Refusals.zeroWidth Refusals.tooFar Refusals.tooHeavy Refusals.badSide Refusals.badSides Refusals.otherPixels Refusals.otherOutput Refusals.tooFewCells Refusals.badState Refusals.rowNotDue Refusals.drainNotDue Refusals.tooBright Refusals.oddApart Refusals.parityDiffers Refusals.productTooHeavy Refusals.badHead Refusals.cutShort Refusals.otherTotal Refusals.overProgram Refusals.outside Refusals.check Refusals.first Refusals.recipeChecks Refusals.sizeChecks Refusals.pictureChecks Refusals.startChecks Refusals.rowChecks Refusals.drainChecks Refusals.fullSize Refusals.passChecks Refusals.directChecks Refusals.roundChecks Refusals.sameSizeChecks Refusals.differenceChecks Refusals.readingChecks Refusals.compareChecks Refusals.jobChecks Refusals.writeChecks Refusals.programChecks
+unfolding sum tab part total product somewhere boxOrder order weight gain fullWidth fullHeight boxCells cascadeCells streamCells Job.low16 Job.mark Job.version Job.read16 Job.jobBytes Job.jobLength Job.jobRecipe Job.jobWidth Job.jobHeight Refusals.tooLong Refusals.zeroWidth Refusals.tooFar Refusals.tooHeavy Refusals.badSide Refusals.badSides Refusals.otherPixels Refusals.otherOutput Refusals.tooFewCells Refusals.badState Refusals.rowNotDue Refusals.drainNotDue Refusals.tooBright Refusals.oddApart Refusals.parityDiffers Refusals.productTooHeavy Refusals.badHead Refusals.cutShort Refusals.otherTotal Refusals.overProgram Refusals.outside Refusals.check Refusals.first Refusals.recipeChecks Refusals.sizeChecks Refusals.pictureChecks Refusals.startChecks Refusals.rowChecks Refusals.drainChecks Refusals.fullSize Refusals.passChecks Refusals.directChecks Refusals.roundChecks Refusals.sameSizeChecks Refusals.differenceChecks Refusals.readingChecks Refusals.compareChecks Refusals.jobChecks Refusals.writeChecks Refusals.programChecks
 answers = refl

@@ -28,12 +28,17 @@ sameColumn r i = i + order (r .rows) / 2
 unfoldable pub sameRow : Recipe → ℕ → ℕ
 sameRow r j = j + order (r .columns) / 2
 
--- the sum and the grey that it has there
+-- the sum that it has there
 unfoldable pub sameSum : Recipe → Picture → ℕ → ℕ → ℕ
 sameSum r p i j = exact r p (sameColumn r i) (sameRow r j)
 
+-- the weight over which a grey and a quotient at a picture place are: the recipe's
+unfoldable pub placeWeight : Recipe → Picture → ℕ → ℕ → ℕ
+placeWeight r p i j = gain r
+
+-- the grey that it has there
 unfoldable pub sameGray : Recipe → Picture → ℕ → ℕ → ℕ
-sameGray r p i j = gray (gain r) (sameSum r p i j)
+sameGray r p i j = gray (placeWeight r p i j) (sameSum r p i j)
 
 -- m / d rounded to the nearest whole number, a half upwards
 unfoldable pub nearest : ℕ → ℕ → ℕ
@@ -56,7 +61,7 @@ ratio m d = div binary64 (float m) (float d)
 
 -- the quotient sum / weight at a picture place, from the sum of the same-size blur
 unfoldable pub sameQuotient : Recipe → Picture → ℕ → ℕ → Float
-sameQuotient r p i j = ratio (sameSum r p i j) (gain r)
+sameQuotient r p i j = ratio (sameSum r p i j) (placeWeight r p i j)
 
 -- Reading at one picture place, from the sum of the same-size blur: the grey, the exact sum, or the quotient sum / weight.
 pub data Reading : Type 0 where
@@ -75,11 +80,15 @@ expressed asSum weight s = sumReading s
 expressed asQuotient weight s = quotientReading (ratio s weight)
 
 unfoldable pub reading : Choice → Recipe → Picture → ℕ → ℕ → Reading
-reading c r p i j = expressed c (gain r) (sameSum r p i j)
+reading c r p i j = expressed c (placeWeight r p i j) (sameSum r p i j)
+
+-- what a box adds to a variance, before the division
+unfoldable pub boxSquare : ℕ → ℕ
+boxSquare n = n * n - 1
 
 -- Variance of a list: the sum of (n times n - 1), divided by 12 once.
 unfoldable pub squares : List ℕ → ℕ
-squares ns = total (λ n. n * n - 1) ns
+squares ns = total boxSquare ns
 
 unfoldable pub variance : List ℕ → Float
 variance ns = ratio (squares ns) 12

@@ -6,5 +6,6 @@ pub mod Gray
 pub mod Same
 pub mod Job
 pub mod Refusals
+pub mod Ranges
 pub mod Program
 pub mod Cases

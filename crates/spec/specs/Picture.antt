@@ -1,7 +1,7 @@
 -- Document 01, "Recipe and exact sum", its second part: pictures, the grown size and the exact sum.
 use mathlib.Core.Bool.{_&&_, cond}
 use mathlib.Core.List.{List, flatten}
-use Prim.Native.Nat.{ℕ, suc, _+_, _-_, _*_}
+use Prim.Native.Nat.{ℕ, suc, _+_, _-_, _*_, _≤_}
 use lib.Dec.{leb, ltb}
 use lib.ListN.{getD}
 use Rattle.spec.specs.Words.{sum, tab}
@@ -15,6 +15,14 @@ pub record Picture : Type 0 where
 
 abbrev pub picture : ℕ → ℕ → List ℕ → Picture
 picture w h xs = record { width = w; height = h; pixels = xs }
+
+-- Pixels are bytes, and so are greys: this is the largest.
+abbrev pub largestGray : ℕ
+largestGray = 255
+
+-- no pixel of a picture is above a largest grey
+abbrev pub Within : ℕ → Picture → Type 0
+Within most p = (k : ℕ) → getD (p .pixels) k 0 ≤ most
 
 -- the pixel at column i, row j; a pixel outside the picture is 0
 unfoldable pub pixel : Picture → ℕ → ℕ → ℕ

@@ -19,9 +19,19 @@ widths c = part 0 (c .count) (c .widths)
 unfoldable pub recipe : Filter → Recipe
 recipe f = record { rows = widths (f .rows); columns = widths (f .columns) }
 
--- a cascade of zeros, as it stands beside the number of a refusal
+-- a list and a recipe as a cascade and a filter hold them: zeros past the count
+unfoldable pub held : List ℕ → Cascade
+held ns = record { count = length ns; widths = part 0 48 ns }
+
+unfoldable pub heldFilter : Recipe → Filter
+heldFilter r = record { rows = held (r .rows); columns = held (r .columns) }
+
+-- a cascade and a filter of zeros, as they stand beside the number of a refusal
 abbrev pub noWidths : Cascade
 noWidths = record { count = 0; widths = replicate 48 0 }
+
+abbrev pub noFilter : Filter
+noFilter = record { rows = noWidths; columns = noWidths }
 
 -- Box of width n: n coefficients 1, at 0 to n - 1.
 unfoldable pub box : ℕ → List ℕ
@@ -36,10 +46,18 @@ unfoldable pub kernel : List ℕ → List ℕ
 kernel [] = 1 ∷ []
 kernel (n ∷ ns) = convolve (box n) (kernel ns)
 
+-- reach of a box
+unfoldable pub boxOrder : ℕ → ℕ
+boxOrder n = n - 1
+
 -- Reach of a list: the sum of (n - 1).
 unfoldable pub order : List ℕ → ℕ
-order ns = total (λ n. n - 1) ns
+order ns = total boxOrder ns
+
+-- weight of a list: the product of its widths
+unfoldable pub weight : List ℕ → ℕ
+weight ns = product ns
 
 -- Weight: the product of all widths in both lists.
 unfoldable pub gain : Recipe → ℕ
-gain r = product (r .rows) * product (r .columns)
+gain r = weight (r .rows) * weight (r .columns)

@@ -7,7 +7,7 @@ use lib.Dec.{leb, ltb, eqb}
 use lib.ListN.{length, getD, take, drop}
 use Rattle.spec.specs.Words.{somewhere}
 use Rattle.spec.specs.Recipe.{Recipe, order, gain}
-use Rattle.spec.specs.Picture.{Picture, fullWidth, fullHeight}
+use Rattle.spec.specs.Picture.{Picture, largestGray, fullWidth, fullHeight}
 use Rattle.spec.specs.Stream.{State, streamCells}
 use Rattle.spec.specs.Job.{mark, version, read16, jobRecipe, jobWidth, jobHeight, jobLength}
 
@@ -61,9 +61,9 @@ rowNotDue s = leb (s .height) (s .emitted)
 unfoldable pub drainNotDue : State → Bool
 drainNotDue s = ltb (s .emitted) (s .height) || leb (fullHeight (s .recipe) (s .height)) (s .emitted)
 
--- 11: a sum to be rounded is above 255 times the weight
-unfoldable pub tooBright : ℕ → List ℕ → Bool
-tooBright weight sums = somewhere (λ s. ltb (255 * weight) s) sums
+-- 11: a sum to be rounded is above the largest grey, 255, times the weight
+unfoldable pub tooBright : ℕ → ℕ → List ℕ → Bool
+tooBright most weight sums = somewhere (λ s. ltb (most * weight) s) sums
 
 -- 12: reaches differ in parity on an axis
 unfoldable pub oddApart : ℕ → ℕ → Bool
@@ -128,11 +128,11 @@ answer cs a = either (first cs) (accepted a) (refused (first cs))
 unfoldable pub lent : {A : Type 0} → List Check → A → A → A
 lent cs new old = either (first cs) new old
 
--- What a call with these checks answers and leaves, which makes a list in its output and needs so many work cells.
-pub record Written {A : Type 0} (cs : List Check) (made : List A) (needed : ℕ) (out : List A) (cells : List ℕ) (number : ℕ) (newOut : List A) (newCells : List ℕ) : Type 0 where
+-- What a call with these checks answers and leaves, which makes something in its outputs, one or several, and needs so many work cells.
+pub record Written {A : Type 0} (cs : List Check) (made : A) (needed : ℕ) (out : A) (cells : List ℕ) (number : ℕ) (newOut : A) (newCells : List ℕ) : Type 0 where
   -- 0, or the number of the first check that holds
   pub answer : number ≡ first cs
-  -- what is made, or on a refusal what the slice held
+  -- what is made, or on a refusal what the outputs held
   pub output : newOut ≡ lent cs made out
   -- the needed cells are free, and those beyond are what they were; on a refusal all are
   pub work : newCells ≡ lent cs (take needed newCells ++ drop needed cells) cells
@@ -199,7 +199,7 @@ directChecks r p rs cs out =
 -- rounding: 1 to 4, 7, 11
 unfoldable pub roundChecks : Recipe → List ℕ → ℕ → List Check
 roundChecks r sums out =
-    recipeChecks r ++ check (otherOutput out (length sums)) 7 ∷ check (tooBright (gain r) sums) 11 ∷ []
+    recipeChecks r ++ check (otherOutput out (length sums)) 7 ∷ check (tooBright largestGray (gain r) sums) 11 ∷ []
 
 -- same-size blur: 1 to 8, with twice the grown size in work cells
 unfoldable pub sameSizeChecks : Recipe → Picture → ℕ → ℕ → List Check

@@ -2,26 +2,29 @@
 -- Assumes nothing.
 use mathlib.Core.Path.{_≡_, refl, sym, ap, _∙_}
 use mathlib.Core.Bool.{Bool, true, false, cond, _||_, true≢false}
-use mathlib.Core.List.{List, [], _∷_}
+use mathlib.Core.List.{List, [], _∷_, _++_}
 use Prim.Native.Nat.{ℕ, suc, _≤_, _<_}
 use native.Mathlib.Omega.{arith}
 use lib.Dec.{leb, ltb}
 use borrow.Author.Tests.{ltb-false, leb-false}
-use Rattle.spec.specs.Recipe.{Recipe}
+use Rattle.spec.specs.Words.{tab, part, total, product, somewhere}
+use Rattle.spec.specs.Recipe.{Recipe, recipe, widths, order, weight, gain}
 use Rattle.spec.specs.Picture.{fullWidth, fullHeight}
 use Rattle.spec.specs.Stream.{State, streamCells}
-use Rattle.spec.specs.Refusals.{Check, check, first, tooLong, zeroWidth, tooFar, tooHeavy, badSide, badSides, badState, rowNotDue, drainNotDue, otherPixels, otherOutput, tooFewCells, recipeChecks, sizeChecks, cellChecks, rowChecks, drainChecks}
+use Rattle.spec.specs.Refusals.{Check, check, first, either, lent, tooLong, zeroWidth, tooFar, tooHeavy, badSide, badSides, badState, rowNotDue, drainNotDue, otherPixels, otherOutput, tooFewCells, recipeChecks, sizeChecks, cellChecks, rowChecks, drainChecks}
 use Rattle.laws.proofs.Numbers.{neither}
-use Rattle.laws.proofs.Refusals.{none-both, first-none, first-then, recipe-numbered, same-length-so, is-sized}
+use Rattle.laws.proofs.Refusals.{first-none, same-length-so, is-sized}
+use Rattle.stream.specs.Calls.{stateOf, answers, push, drain, ZerosRefused}
 use Rattle.stream.specs.Private.{Ready}
 
--- a width that is accepted with a height is accepted alone
-pub size-cells : (r : Recipe) (w h : ℕ) → first (sizeChecks r w h) ≡ 0 → first (cellChecks r w) ≡ 0
-unfolding sizeChecks cellChecks badSides
-size-cells r w h e =
-    let both = none-both (recipeChecks r) _ (recipe-numbered r) e in
-    let five = neither (badSide w) (badSide h) (first-none (badSides w h) 4 _ (both .1) .0) in
-    first-then (recipeChecks r) (badSide w) 5 (recipe-numbered r) (both .0) ∙ ap (λ b. cond b 5 0) (five .0)
+-- the needed cells ask nothing of a height: they are refused as the sides with a height of 1 are
+pub cells-checked : (r : Recipe) (w : ℕ) → sizeChecks r w 1 ≡ cellChecks r w
+unfolding sizeChecks cellChecks badSides badSide
+cells-checked r w = ap (λ b. recipeChecks r ++ check b 5 ∷ []) (go (badSide w))
+  where
+    go : (b : Bool) → (b || badSide 1) ≡ b
+    go true = refl
+    go false = refl
 
 -- 9 holds where the recipe or a side is refused, and else by the rows yielded
 module _ (s : State) where
@@ -133,3 +136,8 @@ unfolding fullWidth
 ready-wide s out cells k =
     let a = is-sized (s .recipe) (s .width) (s .height) (k .sizes) in
     (omega (arith, k .output, a .1 .width), omega (arith, k .output, a .1 .width, a .0 .rowReach))
+
+-- a state of zeros
+pub zeros-refused : ZerosRefused
+unfolding push drain answers lent either first check rowChecks drainChecks badState tooLong zeroWidth tooFar tooHeavy badSides badSide stateOf recipe widths part tab somewhere order weight gain total product
+zeros-refused pixels out cells = (refl, refl)

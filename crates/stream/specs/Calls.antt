@@ -1,9 +1,10 @@
 -- What a start, a row call and a drain answer and leave in what they were lent, for every argument.
+use mathlib.Core.Path.{_≡_}
 use mathlib.Core.List.{List, [], _++_}
 use Prim.Native.Nat.{ℕ, _+_}
 use lib.ListN.{length, drop, replicate}
 use Rattle.spec.specs.declared.Filter.{Filter}
-use Rattle.spec.specs.Recipe.{recipe, noWidths}
+use Rattle.spec.specs.Recipe.{recipe, noFilter}
 use Rattle.spec.specs.Stream.{State as SpecState, streamCells, rowCost}
 use Rattle.spec.specs.Refusals.{Check, first, lent, startChecks, rowChecks, drainChecks}
 use Rattle.stream.specs.declared.calls.State.{State}
@@ -14,6 +15,14 @@ use Rattle.stream.specs.Stages.{worked, entering}
 -- the state that a struct holds
 unfoldable pub stateOf : State → SpecState
 stateOf s = record { recipe = recipe (s .filter); width = s .width; height = s .height; emitted = s .emitted }
+
+-- a recipe's state over a picture of these sides, with so many rows yielded
+abbrev pub stateAt : Filter → ℕ → ℕ → ℕ → State
+stateAt f w h e = record { filter = f; width = w; height = h; emitted = e }
+
+-- a state of zeros
+abbrev pub zeros : State
+zeros = stateAt noFilter 0 0 0
 
 -- ---- the start
 
@@ -26,17 +35,13 @@ pub record Began : Type 0 where
 unfoldable pub began : Started → List ℕ → Began
 began a cells = record { number = a .refusal; state = a .state; cells = cells }
 
--- a state of zeros
-abbrev pub zeros : State
-zeros = record { filter = record { rows = noWidths; columns = noWidths }; width = 0; height = 0; emitted = 0 }
-
 -- accepted: no row is yielded yet, and exactly the needed cells are zero
 unfoldable pub started : Filter → ℕ → ℕ → List ℕ → Began
 started f w h cells =
     let needed = streamCells (recipe f) w in
     record {
       number = 0;
-      state = record { filter = f; width = w; height = h; emitted = 0 };
+      state = stateAt f w h 0;
       cells = replicate needed 0 ++ drop needed cells;
     }
 
@@ -60,7 +65,7 @@ called a out cells = record { number = a .refusal; state = a .state; count = a .
 
 -- one row more is yielded
 unfoldable pub next : State → State
-next s = record { filter = s .filter; width = s .width; height = s .height; emitted = s .emitted + 1 }
+next s = stateAt (s .filter) (s .width) (s .height) (s .emitted + 1)
 
 -- accepted: a row through all stages
 unfoldable pub steps : State → List ℕ → List ℕ → Called
@@ -81,3 +86,7 @@ push s pixels out cells = answers (rowChecks (stateOf s) (length pixels) (length
 -- a drain works the row list on a black row
 unfoldable pub drain : State → List ℕ → List ℕ → Called
 drain s out cells = answers (drainChecks (stateOf s) (length out) (length cells)) s [] out cells
+
+-- The claim that "a state of zeros gets 9 later, its sides being 0", whatever else a row call or a drain is lent.
+abbrev pub ZerosRefused : Type 0
+ZerosRefused = (pixels out cells : List ℕ) → (push zeros pixels out cells .number ≡ 9) × (drain zeros out cells .number ≡ 9)

@@ -7,7 +7,7 @@ use Rattle.spec.specs.Recipe.{Recipe}
 use Rattle.spec.specs.Picture.{fullWidth, fullHeight}
 use Rattle.spec.specs.Stream.{State, streamCells}
 use Rattle.spec.specs.Refusals.{first, sizeChecks, badState}
-use Rattle.stream.specs.declared.calls.Sizes.{Sizes}
+use Rattle.stream.specs.declared.sizes.Sizes.{Sizes}
 
 -- the sizes, where the number is 0
 pub record Told (r : Recipe) (w h : ℕ) (a : Sizes) : Type 0 where

@@ -6,17 +6,15 @@ ghost use Prim.Native.Nat.{_≤_};
 ghost use lib.Dec.{ltb};
 ghost use lib.ListN.{length, getD};
 ghost use Rattle.spec.specs.Words.{tab};
-ghost use Rattle.spec.specs.Recipe.{recipe};
 ghost use Rattle.spec.specs.Refusals.{check, first, otherOutput, tooFewCells, rowChecks, drainChecks};
-ghost use Rattle.stream.specs.Calls.{stateOf, began, zeros, start as startOf, called, steps, push as pushOf, drain as drainOf};
-ghost use Rattle.stream.specs.Private.{Sized, Gauged, Ready};
+ghost use Rattle.stream.specs.Calls.{stateOf, stateAt, began, zeros, start as startOf, called, steps, push as pushOf, drain as drainOf};
+ghost use Rattle.stream.specs.Private.{Gauged, Ready};
 use crate::cascades::work;
+use crate::sizes::Sizes;
+use crate::sizes::no_sizes;
+use crate::sizes::sizes_of;
 use crate::stages::clear;
-use filter::Cells;
-use filter::FullSize;
-use filter::full_size;
-use filter::stream_cells;
-use spec::Cascade;
+use filter::no_filter;
 use spec::Filter;
 
 // The recipe, the sides of the picture, and the rows yielded.
@@ -39,48 +37,6 @@ pub struct Stepped {
     pub refusal: u8,
     pub state: State,
     pub count: u64,
-}
-
-// A refusal, or 0, the grown sides and the needed cells.
-struct Sizes {
-    refusal: u8,
-    width: usize,
-    height: usize,
-    cells: usize,
-}
-
-fn no_sizes(number: u8) -> Sizes
-    ensures { λ r. ⌜ r .refusal ≡ number ⌝ }
-{
-    Sizes {
-        refusal: number,
-        width: 0,
-        height: 0,
-        cells: 0,
-    }
-}
-
-// The sizes for a recipe and the sides of a picture: refused by 1 to 5.
-fn sizes_of(filter: Filter, width: usize, height: usize) -> Sizes
-    ensures { λ r. ⌜ Sized (recipe filter) width height r ⌝ }
-{
-    let size = full_size(filter, width, height);
-    let need = stream_cells(filter, width);
-    match size {
-        FullSize::Refused(number) => no_sizes(number),
-        FullSize::Sides {
-            width: w,
-            height: h,
-        } => match need {
-            Cells::Refused(number) => no_sizes(number),
-            Cells::Needed(n) => Sizes {
-                refusal: 0,
-                width: w,
-                height: h,
-                cells: n,
-            },
-        },
-    }
 }
 
 // The sizes for a state: refused by 9.
@@ -175,25 +131,26 @@ fn load(pixels: &[u8], row: &mut [u64])
     clear(&mut row[from..to]);
 }
 
+// The state of a recipe over a picture with these sides, with so many rows yielded. Any numbers make a
+// state; 9 refuses what is none.
+pub fn state_at(filter: Filter, width: usize, height: usize, emitted: usize) -> State
+    ensures { λ r. ⌜ r ≡ stateAt filter width height emitted ⌝ }
+{
+    State {
+        filter,
+        width,
+        height,
+        emitted,
+    }
+}
+
 // A start that is refused: its number and a state of zeros.
 fn no_start(number: u8) -> Started
     ensures { λ r. ⌜ (r .refusal ≡ number) × (r .state ≡ zeros) ⌝ }
 {
-    let none = Cascade {
-        count: 0,
-        widths: [0u8; 48],
-    };
     Started {
         refusal: number,
-        state: State {
-            filter: Filter {
-                rows: none,
-                columns: none,
-            },
-            width: 0,
-            height: 0,
-            emitted: 0,
-        },
+        state: state_at(no_filter(), 0, 0, 0),
     }
 }
 
@@ -215,12 +172,7 @@ pub fn start(filter: Filter, width: usize, height: usize, cells: &mut [u64]) -> 
     clear(&mut cells[z..needed]);
     Started {
         refusal: 0,
-        state: State {
-            filter,
-            width,
-            height,
-            emitted: 0,
-        },
+        state: state_at(filter, width, height, 0),
     }
 }
 
@@ -244,12 +196,7 @@ fn step(state: State, out: &mut [u64], cells: &mut [u64]) -> Stepped
     let count = work(filter, state.emitted, out, cells);
     Stepped {
         refusal: 0,
-        state: State {
-            filter,
-            width: state.width,
-            height: state.height,
-            emitted: state.emitted + 1,
-        },
+        state: state_at(filter, state.width, state.height, state.emitted + 1),
         count,
     }
 }

@@ -7,9 +7,10 @@ ghost use Rattle.spec.specs.Words.{total};
 ghost use Rattle.spec.specs.Recipe.{widths, recipe};
 ghost use Rattle.spec.specs.Stream.{boxCells, cascadeCells, cascadeCost, streamCells};
 ghost use Rattle.stream.specs.Stages.{rowStage, columnStage, stages as stagesOf, worked};
+use crate::sizes::box_cells;
 use crate::stages::column_box;
 use crate::stages::row_box;
-use filter::box_cells;
+use filter::width_at;
 use spec::Cascade;
 use spec::Filter;
 
@@ -31,7 +32,7 @@ fn along(list: Cascade, row: &mut [u64], cells: &mut [u64]) -> Taken
     let mut from: usize = 0;
     let mut i: usize = 0;
     while i < count {
-        let n = list.widths[i];
+        let n = width_at(list.count, &list.widths, i);
         let to = from + box_cells(n);
         sum += row_box(n, row, &mut cells[from..to]);
         from = to;
@@ -56,7 +57,7 @@ fn down(list: Cascade, emitted: usize, row: &mut [u64], cells: &mut [u64]) -> u6
     let mut start: usize = 0;
     let mut j: usize = 0;
     while j < count {
-        let n = list.widths[j];
+        let n = width_at(list.count, &list.widths, j);
         let end = start + row.len() * box_cells(n);
         total += column_box(n, emitted, row, &mut cells[start..end]);
         start = end;

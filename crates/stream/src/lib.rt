@@ -1,7 +1,8 @@
-// The one pass of document 01: a start, a row call and a drain, on a running state by value and lent
-// work cells.
+// The one pass of document 01: the work cells that it needs, a start, a row call and a drain, on a
+// running state by value and lent cells.
 mod calls;
 mod cascades;
+mod sizes;
 mod stages;
 
 pub use calls::Started;
@@ -10,3 +11,6 @@ pub use calls::Stepped;
 pub use calls::drain;
 pub use calls::push;
 pub use calls::start;
+pub use calls::state_at;
+pub use sizes::Cells;
+pub use sizes::stream_cells;

@@ -8,7 +8,7 @@ use Rattle.spec.specs.declared.Filter.{Filter}
 use Rattle.spec.specs.Refusals.{Check, first, either, lent}
 use Rattle.stream.specs.declared.calls.State.{State}
 use Rattle.stream.specs.declared.calls.Stepped.{Stepped}
-use Rattle.stream.specs.Calls.{Called, called as calledBy, answers, steps, next, push, drain}
+use Rattle.stream.specs.Calls.{stateAt, Called, called as calledBy, answers, steps, next, push, drain}
 use lib.ListN.{length}
 use Rattle.blocks.specs.Given.{given}
 use Rattle.blocks.proofs.Standing.{given-one, words-one}
@@ -39,7 +39,7 @@ told block a out cells want e k =
     let same : given block ≡ a .state .filter = sym k ∙ sym (ap (λ (c : Called). c .state .filter) e) in
     (λ i. record {
       number = a .refusal;
-      state = record { filter = same i; width = a .state .width; height = a .state .height; emitted = a .state .emitted };
+      state = stateAt (same i) (a .state .width) (a .state .height) (a .state .emitted);
       count = a .count;
       out = out;
       cells = cells;

@@ -3,12 +3,12 @@ use mathlib.Core.List.{List}
 use Prim.Native.Nat.{ℕ}
 use lib.ListN.{getD}
 use Rattle.stream.specs.declared.calls.State.{State}
-use Rattle.stream.specs.Calls.{Began, Called}
+use Rattle.stream.specs.Calls.{stateAt, Began, Called}
 use Rattle.blocks.specs.Given.{given}
 
 -- a recipe's block, and the words: width, height, rows yielded
 unfoldable pub givenState : List ℕ → List ℕ → State
-givenState block words = record { filter = given block; width = getD words 0 0; height = getD words 1 0; emitted = getD words 2 0 }
+givenState block words = stateAt (given block) (getD words 0 0) (getD words 1 0) (getD words 2 0)
 
 -- what a start, and what a row call or a drain left
 unfoldable pub began : ℕ → State → List ℕ → Began

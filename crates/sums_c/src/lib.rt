@@ -15,6 +15,7 @@ ghost use Rattle.sums_c.specs.States.{givenState, began, called};
 use blocks::filter_of;
 use blocks::put_filter;
 use stream::State;
+use stream::state_at;
 
 // All exact sums of a picture by the direct method, with both lists of coefficients: 1 to 7.
 #[no_mangle]
@@ -56,12 +57,7 @@ pub extern "C" fn bore_passes(
 fn state_of(block: &[u8; 98], words: &[usize; 3]) -> State
     ensures { λ r. ⌜ r ≡ givenState (now (block .entry)) (now (words .entry)) ⌝ }
 {
-    State {
-        filter: filter_of(block),
-        width: words[0],
-        height: words[1],
-        emitted: words[2],
-    }
+    state_at(filter_of(block), words[0], words[1], words[2])
 }
 
 // The start of the one pass: 1 to 5, 8. The last two blocks become the state, of zeros on a refusal.

@@ -14,7 +14,7 @@ use Rattle.spec.specs.Gray.{nearestDifference}
 use Rattle.laws.proofs.Slices.{Rightwards, rightwards-none, rightwards-more, rightwards-all}
 use Rattle.gray.proofs.Dividing.{own-weight, divides-own}
 use Rattle.difference.specs.declared.Weights.{Weights}
-use Rattle.difference.proofs.Nearest.{times-other}
+use Rattle.laws.proofs.Ranges.{times-other}
 use Rattle.difference.proofs.difference_row.Statement.{statement}
 use Rattle.difference.proofs.difference_row.Tie as tie
 
@@ -44,13 +44,13 @@ module _ (c : tie.In-loop Inv-loop μ-loop) where
   start = c .before .before .before .before
 
   left : getD (start .args .a-sums .now) (c .before .loop .k) 0 * start .args .weights .b ≤ 255 * (start .args .weights .a * start .args .weights .b)
-  left = times-other (start .args .weights .a) (start .args .weights .b) _ (start .pre .1 (c .before .loop .k))
+  left = times-other 255 (start .args .weights .a) (start .args .weights .b) _ (start .pre .1 (c .before .loop .k))
 
   right : getD (start .args .b-sums .now) (c .before .loop .k) 0 * start .args .weights .a ≤ 255 * (start .args .weights .a * start .args .weights .b)
   right =
       omega (
         arith,
-        times-other (start .args .weights .b) (start .args .weights .a) _ (start .pre .2 (c .before .loop .k)),
+        times-other 255 (start .args .weights .b) (start .args .weights .a) _ (start .pre .2 (c .before .loop .k)),
         mul-comm (start .args .weights .a) (start .args .weights .b),
       )
 

@@ -8,7 +8,7 @@ use borrow.Author.Needs.{needs}
 use lib.IntN.{pos}
 use lib.ListN.{length, getD, take, drop}
 use Rattle.spec.specs.Recipe.{recipe, order}
-use Rattle.spec.specs.Picture.{Picture, picture, fullWidth, fullHeight, fullRow}
+use Rattle.spec.specs.Picture.{Picture, picture, largestGray, fullWidth, fullHeight, fullRow}
 use Rattle.spec.specs.Gray.{places, sameRow, sameSum, difference}
 use Rattle.laws.proofs.Numbers.{row-fits}
 use Rattle.laws.proofs.Slices.{Mixed, mixed-none, mixed-all, length-mixed, length-lent}
@@ -185,10 +185,10 @@ difference-row-requires c κs =
     let bytes : (k : ℕ) → getD (start .args .pixels .now) k 0 ≤ 255 = λ k. omega (arith, c .before .before .before .before .before .before .before .before .before .before .before .before .before .before .before .before .before .before .before .before .shared-slice-known .given k) in
     let out = sym (length-lent (turn .loop .from) (s .width) (turn .loop .out) (inside test)) in (
       taken .divides,
-      subst (λ w. Bounded w (take (left + s .width - left) (drop left (rows .next-rows .last .1 .1 .1 .0)))) (sym (taken .aGain))
-          (taken-bounded _ _ _ _ (first-came rows .1) left _ (taken .first .half) many bytes),
-      subst (λ w. Bounded w (take (other + s .width - other) (drop other (rows .next-rows .last .1 .1 .1 .1 .0)))) (sym (taken .bGain))
-          (taken-bounded _ _ _ _ (second-came rows .1) other _ (taken .second .half) more bytes),
+      subst (λ w. Bounded largestGray w (take (left + s .width - left) (drop left (rows .next-rows .last .1 .1 .1 .0)))) (sym (taken .aGain))
+          (taken-bounded _ _ _ _ (first-came rows .1) left _ (taken .first .half) many largestGray bytes),
+      subst (λ w. Bounded largestGray w (take (other + s .width - other) (drop other (rows .next-rows .last .1 .1 .1 .1 .0)))) (sym (taken .bGain))
+          (taken-bounded _ _ _ _ (second-came rows .1) other _ (taken .second .half) more largestGray bytes),
       taken-length _ _ _ _ (first-came rows .1) left _ (taken .first .half) many ∙ out,
       taken-length _ _ _ _ (second-came rows .1) other _ (taken .second .half) more ∙ taken .sameWidth ∙ out,
     )

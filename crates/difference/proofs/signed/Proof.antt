@@ -30,7 +30,7 @@ size-is c =
     let start = c .before .before in
     let by = start .args .by in
     let bounded : c .before .if1 .gap ≤ 255 * by .weight = omega (arith, gap-is (c .before), start .pre .1, start .pre .2) in
-    rounded-gray (by .weight) by (start .pre .0) _ _ bounded (c .rounded .ensures)
+    rounded-gray 255 (by .weight) by (start .pre .0) (omega arith) _ _ bounded (c .rounded .ensures)
 
 cast-size : tie.Need-cast-size
 cast-size c = let small = size-is c .1 in search needs

@@ -1,6 +1,6 @@
 -- `direct::direct` meets its contract: the refusal first; then both slices hold the coefficients, and every sum is formed from them.
 -- Assumes nothing.
-use mathlib.Core.Path.{_≡_, sym, _∙_}
+use mathlib.Core.Path.{_≡_, refl, sym, _∙_}
 use lib.ListN.{length}
 use borrow.Author.Needs.{needs}
 use Rattle.spec.specs.Recipe.{recipe, kernel}
@@ -15,7 +15,7 @@ refusal-requires : tie.Need-refusal-requires
 refusal-requires c κs = search needs
 
 returns : tie.Need-returns
-returns c = formed-refused _ _ _ _ _ (c .before .refusal .result) (c .before .refusal .ensures) (c .if1 .taken)
+returns c = formed-refused _ _ _ _ _ (c .before .refusal .result) (c .before .refusal .ensures _ refl) (c .if1 .taken)
 
 kernel-requires : tie.Need-kernel-requires
 kernel-requires c κs = search needs
@@ -27,7 +27,7 @@ kernel-requires-2 c κs = search needs
 none : (c : tie.Else1) → let args = c .before .before .before .before .before .before .args in
     first (checks (recipe (args .filter)) (picture (args .width) (args .height) (args .pixels .now)) (args .row-kernel .now) (args .column-kernel .now) (args .out .now))
     ≡ 0
-none c = sym (c .before .refusal .ensures) ∙ c .if1 .left
+none c = sym (c .before .refusal .ensures (c .before .before .before .before .before .before .args .pixels .now) refl) ∙ c .if1 .left
 
 called : (c : tie.Else1) → let args = c .before .before .before .before .before .before .args in
     Called (recipe (args .filter)) (picture (args .width) (args .height) (args .pixels .now))

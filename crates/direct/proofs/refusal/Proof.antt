@@ -1,7 +1,8 @@
 -- `direct::refusal` meets its contract: the checks of the grown sides first, then 6, then 7 for each slice.
 -- Assumes nothing.
 use mathlib.Core.Path.{_≡_, sym, ap, ap₂, _∙_}
-use Prim.Native.Nat.{_+_, _-_, _*_, _≤_}
+use mathlib.Core.List.{List}
+use Prim.Native.Nat.{ℕ, _+_, _-_, _*_, _≤_}
 use native.Mathlib.Nat.{mul-le-mul}
 use native.Mathlib.Omega.{arith}
 use borrow.Author.Needs.{needs}
@@ -24,7 +25,7 @@ enum-known-answer-2 : tie.Need-enum-known-answer-2
 enum-known-answer-2 c = search needs
 
 -- what is known where the grown sides are told
-known : (c : tie.After-known-told2) → let args = c .before .before .before .before .before .args in
+known : (c : tie.After-known-told2) → let args = c .before .before .before .before .args in
     let r = recipe (args .filter) in
     let w = c .before .answer2 .given .0 .0 in
     let h = c .before .answer2 .given .0 .1 .0 in
@@ -37,7 +38,7 @@ known : (c : tie.After-known-told2) → let args = c .before .before .before .be
     }
 unfolding fullSides fullWidth fullHeight
 known c =
-    let args = c .before .before .before .before .before .args in
+    let args = c .before .before .before .before .args in
     let told = ap sizeTold (sym (c .before .answer2 .given .1)) ∙ c .before .before .before .full-size .ensures in
     let q = read-accepted _ _ _ told in
     let sized = is-sized (recipe (args .filter)) (args .width) (args .height) (q .0) in
@@ -74,53 +75,53 @@ mul-if4 c =
     omega (arith, mul-le-mul w h)
 
 -- the lengths that are asked for are those that are stated
-stated : (c : tie.After-known-told2) → let args = c .before .before .before .before .before .args in
+stated : (c : tie.After-known-told2) (xs : List ℕ) → let args = c .before .before .before .before .args in
     let r = recipe (args .filter) in
     let w = c .before .answer2 .given .0 .0 in
     let h = c .before .answer2 .given .0 .1 .0 in
     record {
       rows : w - args .width + 1 ≡ order (r .rows) + 1;
       columns : h - args .height + 1 ≡ order (r .columns) + 1;
-      out : w * h ≡ fullSize r (picture (args .width) (args .height) (args .pixels .now));
+      out : w * h ≡ fullSize r (picture (args .width) (args .height) xs);
     }
 unfolding fullSize fullWidth fullHeight
-stated c =
+stated c xs =
     let k = known c in
     record { rows = omega (arith, k .across); columns = omega (arith, k .down); out = ap₂ _*_ (k .across) (k .down) }
 
 returns : tie.Need-returns
-returns c =
+returns c xs same =
     let told = ap sizeTold (sym (c .before .answer .given .1)) ∙ c .before .before .before .full-size .ensures in
     let q = read-refused _ _ _ told in
     sym (by-size _ _ _ _ _ _ (q .0) (q .1))
 
 returns-2 : tie.Need-returns-2
-returns-2 c = sym (by-pixels _ _ _ _ _ (known (c .before) .none) (c .if1 .taken))
+returns-2 c xs same = sym (by-pixels _ _ _ _ _ (known (c .before) .none) (λ e. c .if1 .taken (sym same ∙ e)))
 
 returns-3 : tie.Need-returns-3
-returns-3 c =
+returns-3 c xs same =
     let told = c .before .before in
-    sym (by-rows _ _ _ _ _ (known told .none) (c .before .if1 .left) (λ e. c .if2 .taken (e ∙ sym (stated told .rows))))
+    sym (by-rows _ _ _ _ _ (known told .none) (same ∙ c .before .if1 .left) (λ e. c .if2 .taken (e ∙ sym (stated told xs .rows))))
 
 returns-4 : tie.Need-returns-4
-returns-4 c =
+returns-4 c xs same =
     let told = c .before .before .before in
-    let s = stated told in
-    sym (by-columns _ _ _ _ _ (known told .none) (c .before .before .if1 .left) (c .before .if2 .left ∙ s .rows)
+    let s = stated told xs in
+    sym (by-columns _ _ _ _ _ (known told .none) (same ∙ c .before .before .if1 .left) (c .before .if2 .left ∙ s .rows)
     (λ e. c .if3 .taken (e ∙ sym (s .columns))))
 
 returns-5 : tie.Need-returns-5
-returns-5 c =
+returns-5 c xs same =
     let told = c .before .before .before .before in
-    let s = stated told in
-    sym (by-out _ _ _ _ _ (known told .none) (c .before .before .before .if1 .left) (c .before .before .if2 .left ∙ s .rows)
+    let s = stated told xs in
+    sym (by-out _ _ _ _ _ (known told .none) (same ∙ c .before .before .before .if1 .left) (c .before .before .if2 .left ∙ s .rows)
     (c .before .if3 .left ∙ s .columns) (λ e. c .if4 .taken (e ∙ sym (s .out))))
 
 returns-6 : tie.Need-returns-6
-returns-6 c =
+returns-6 c xs same =
     let told = c .before .before .before .before in
-    let s = stated told in
-    sym (by-none _ _ _ _ _ (known told .none) (c .before .before .before .if1 .left) (c .before .before .if2 .left ∙ s .rows)
+    let s = stated told xs in
+    sym (by-none _ _ _ _ _ (known told .none) (same ∙ c .before .before .before .if1 .left) (c .before .before .if2 .left ∙ s .rows)
     (c .before .if3 .left ∙ s .columns) (c .if4 .left ∙ s .out))
 
 pub refusal-spec : {M : Type 1} → statement M

@@ -1,6 +1,6 @@
 -- `equivalence::tally` meets its contract: after i widths the tally holds those before; widths of 1 are struck out at the end.
 -- Assumes nothing.
-use mathlib.Core.Path.{refl, sym, subst}
+use mathlib.Core.Path.{refl, sym, subst, _∙_}
 use Prim.Native.Nat.{_-_}
 use borrow.Author.Needs.{needs}
 use Rattle.equivalence.proofs.Tallies.{Tallied, tallied-none, tally-small, tallied-more, tallied-all}
@@ -18,10 +18,10 @@ cast-count c = search needs
 
 loop-holds : tie.Need-loop-holds Inv-loop μ-loop
 loop-holds c =
-    subst (λ counts. Tallied (c .args .t1) (c .args .t1 .count) counts 0) (sym (c .pre .1)) (tallied-none (c .args .t1) _ refl (search needs))
+    subst (λ counts. Tallied (c .args .t1) (c .args .t1 .count) counts 0) (sym (c .pre .1)) (tallied-none (c .args .t1) _ refl)
 
-element-copy-out-place : tie.Need-element-copy-out-place Inv-loop μ-loop
-element-copy-out-place c = search needs
+width-at-requires : tie.Need-width-at-requires Inv-loop μ-loop
+width-at-requires c κs = search needs
 
 place-requires : tie.Need-place-requires Inv-loop μ-loop
 place-requires c κs = search needs
@@ -31,8 +31,8 @@ element-copy-out-counts c = search needs
 
 add-counts : tie.Need-add-counts Inv-loop μ-loop
 add-counts c =
-    let start = c .before .before .before .before .before in
-    let turn = c .before .before .before .before .loop in
+    let start = c .before .before .before .before .before .before .before .before in
+    let turn = c .before .before .before .before .before .before .before .loop in
     let small = tally-small (start .args .t1) _ (turn .counts) (turn .i) (turn .inv) (start .pre .0) (c .before .place .result) (c .before .place .ensures .1) in
     search needs
 
@@ -47,9 +47,10 @@ loop-less c = search needs
 
 loop-again : tie.Need-loop-again Inv-loop μ-loop
 loop-again c =
-    let start = c .before .before .before .before .before in
-    let turn = c .before .before .before .before .loop in
-    tallied-more (start .args .t1) _ (turn .counts) (turn .i) (turn .inv) (search needs) (start .pre .0) (c .before .place .result) (c .before .place .ensures .0) (c .before .place .ensures .1)
+    let start = c .before .before .before .before .before .before .before .before in
+    let turn = c .before .before .before .before .before .before .before .loop in
+    tallied-more (start .args .t1) _ (turn .counts) (turn .i) (turn .inv) (search needs) (c .before .place .result)
+    (c .before .place .ensures .0 ∙ c .before .before .width-at .ensures) (c .before .place .ensures .1)
 
 element-write-counts-2 : tie.Need-element-write-counts-2 Inv-loop μ-loop
 element-write-counts-2 c = search needs
@@ -67,7 +68,7 @@ tally-spec =
     μ-loop
     cast-count
     loop-holds
-    element-copy-out-place
+    width-at-requires
     place-requires
     element-copy-out-counts
     add-counts

@@ -1,4 +1,4 @@
--- `filter_c::bore_stream_cells` meets its contract: the answer of `filter::stream_cells`, case by case.
+-- `filter_c::bore_stream_cells` meets its contract: the answer of `stream::stream_cells`, case by case.
 -- Assumes nothing.
 use mathlib.Core.Path.{_≡_, sym, ap, _∙_}
 use borrow.Author.Needs.{needs}
@@ -6,7 +6,7 @@ use Rattle.spec.specs.Recipe.{recipe}
 use Rattle.spec.specs.Stream.{streamCells}
 use Rattle.spec.specs.Refusals.{answer, cellChecks}
 use Rattle.laws.proofs.Refusals.{lent-refused, lent-accepted, read-refused, read-accepted}
-use Rattle.filter.specs.Answers.{cellsTold}
+use Rattle.stream.specs.Answers.{cellsTold}
 use Rattle.blocks.specs.Given.{given}
 use Rattle.filter_c.proofs.bore_stream_cells.Statement.{statement}
 use Rattle.filter_c.proofs.bore_stream_cells.Tie as tie

@@ -1,7 +1,7 @@
 -- `gray_c::bore_sample_gray` meets its contract: the grey of `sample_into`, for the recipe that is given.
 -- Assumes nothing.
 use borrow.Author.Needs.{needs}
-use Rattle.spec.specs.Gray.{reading, expressed, sameGray}
+use Rattle.spec.specs.Gray.{reading, expressed, placeWeight, sameGray}
 use Rattle.gray_c.proofs.bore_sample_gray.Statement.{statement}
 use Rattle.gray_c.proofs.bore_sample_gray.Tie as tie
 
@@ -12,7 +12,7 @@ sample-into-requires : tie.Need-sample-into-requires
 sample-into-requires c κs = search needs
 
 returns : tie.Need-returns
-unfolding reading expressed sameGray
+unfolding reading expressed placeWeight sameGray
 returns c =
     let told = rw (c .before .before .before .before .filter-of .ensures) at (c .sample-into .ensures) in
     (told .answer, told .inGray)

@@ -17,7 +17,7 @@ unfolding givenJob
 returns c =
     let read = c .before .before .before .read in
     let j = read .result in
-    (λ i. record { refusal = j .refusal; filter = c .before .put-filter .ensures i; width = j .width; height = j .height; offset = j .offset })
+    (λ i. record { refusal = j .refusal; filter = c .before .put-filter .ensures .1 i; width = j .width; height = j .height; offset = j .offset })
     ∙ read .ensures
 
 pub bore-read-job-spec : {M : Type 1} → statement M

@@ -3,7 +3,7 @@
 use mathlib.Core.Path.{ap, _∙_}
 use borrow.Author.Needs.{needs}
 use Rattle.spec.specs.declared.Filter.{Filter}
-use Rattle.stream.specs.Calls.{began as beganBy, start}
+use Rattle.stream.specs.Calls.{stateAt, began as beganBy, start}
 use Rattle.sums_c.specs.States.{givenState, began}
 use Rattle.sums_c.proofs.bore_start.Statement.{statement}
 use Rattle.sums_c.proofs.bore_start.Tie as tie
@@ -28,7 +28,7 @@ returns c =
     let s = made .result .state in
     (λ i. record {
       number = made .result .refusal;
-      state = record { filter = c .before .put-filter .ensures i; width = s .width; height = s .height; emitted = s .emitted };
+      state = stateAt (c .before .put-filter .ensures .1 i) (s .width) (s .height) (s .emitted);
       cells = made .last .1 .1 .1 .0;
     })
     ∙ made .ensures

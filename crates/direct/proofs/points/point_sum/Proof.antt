@@ -1,6 +1,6 @@
 -- `direct::points::point_sum` meets its contract: the refusal first; then the sum at the grown place that the same-size blur takes.
 -- Assumes nothing.
-use mathlib.Core.Path.{_≡_, sym, _∙_}
+use mathlib.Core.Path.{_≡_, refl, sym, _∙_}
 use native.Mathlib.Omega.{arith}
 use lib.ListN.{length-take}
 use borrow.Author.Needs.{needs}
@@ -17,7 +17,7 @@ refusal-requires : tie.Need-refusal-requires
 refusal-requires c κs = search needs
 
 returns : tie.Need-returns
-returns c = sym (answer-refused _ _ _ (sym (c .before .refusal .ensures)) (c .if1 .taken))
+returns c = sym (answer-refused _ _ _ (sym (c .before .refusal .ensures _ refl)) (c .if1 .taken))
 
 measure-requires : tie.Need-measure-requires
 measure-requires c κs = search needs
@@ -25,7 +25,7 @@ measure-requires c κs = search needs
 -- what is known where none of 1 to 6 and 15 applies
 none : (c : tie.Else1) → let args = c .before .before .before .args in
     first (readingChecks (recipe (args .filter)) (picture (args .width) (args .height) (args .pixels .now)) (args .column) (args .row)) ≡ 0
-none c = sym (c .before .refusal .ensures) ∙ c .if1 .left
+none c = sym (c .before .refusal .ensures _ refl) ∙ c .if1 .left
 
 inside : (c : tie.Else1) → let args = c .before .before .before .args in
     Inside (recipe (args .filter)) (picture (args .width) (args .height) (args .pixels .now)) (args .column) (args .row)

@@ -22,7 +22,7 @@ enum-told : tie.Need-enum-told
 enum-told c = search needs
 
 -- where the grown sides are told none of 1 to 5 applies
-none : (c : tie.After-enum-told) → let args = c .before .before .before .before .args in
+none : (c : tie.After-enum-told) → let args = c .before .before .before .args in
     first (sizeChecks (recipe (args .filter)) (args .width) (args .height)) ≡ 0
 none c = read-accepted _ _ _ (ap sizeTold (sym (c .enum-told .given .1)) ∙ c .before .before .full-size .ensures) .0
 
@@ -33,23 +33,23 @@ mul-if1 c =
 
 returns : tie.Need-returns
 unfolding readingChecks
-returns c =
+returns c xs same =
     let told = ap sizeTold (sym (c .before .answer .given .1)) ∙ c .before .before .before .full-size .ensures in
     let q = read-refused _ _ _ told in
     sym (picture-sides _ _ _ _ (q .0) (q .1))
 
 returns-2 : tie.Need-returns-2
 unfolding readingChecks
-returns-2 c = sym (picture-pixels _ _ _ (none (c .before)) (c .if1 .taken))
+returns-2 c xs same = sym (picture-pixels _ _ _ (none (c .before)) (λ e. c .if1 .taken (sym same ∙ e)))
 
 returns-3 : tie.Need-returns-3
-returns-3 c = sym (by-column _ _ _ _ (none (c .before .before)) (c .before .if1 .left) (omega arith))
+returns-3 c xs same = sym (by-column _ _ _ _ (none (c .before .before)) (same ∙ c .before .if1 .left) (omega arith))
 
 returns-4 : tie.Need-returns-4
-returns-4 c = sym (by-row _ _ _ _ (none (c .before .before .before)) (c .before .before .if1 .left) (omega arith) (omega arith))
+returns-4 c xs same = sym (by-row _ _ _ _ (none (c .before .before .before)) (same ∙ c .before .before .if1 .left) (omega arith) (omega arith))
 
 returns-5 : tie.Need-returns-5
-returns-5 c = sym (by-none _ _ _ _ (none (c .before .before .before)) (c .before .before .if1 .left) (omega arith) (omega arith))
+returns-5 c xs same = sym (by-none _ _ _ _ (none (c .before .before .before)) (same ∙ c .before .before .if1 .left) (omega arith) (omega arith))
 
 pub refusal-spec : {M : Type 1} → statement M
 refusal-spec =

@@ -8,6 +8,7 @@ use borrow.Author.Needs.{needs}
 use native.Mathlib.Nat.{le-trans, le-of-eq, mul-le-mul, lt-of-le-of-lt}
 use lib.Dec.{lit<}
 use Rattle.spec.specs.Words.{tab}
+use Rattle.spec.specs.Gray.{boxSquare}
 use Rattle.laws.proofs.Lists.{getD-tab}
 use lib.ListN.{getD}
 use Rattle.filter.proofs.card.square.Statement.{statement}
@@ -20,21 +21,23 @@ rule k = (k + 1) * (k + 1) - 1
 table : List ℕ
 table = tab 255 rule
 
-entry : (c : tie.Else1) → let n = c .before .args .n in getD table (n - 1) 0 ≡ n * n - 1
-unfolding table rule
+entry : (c : tie.Else1) → let n = c .before .args .n in getD table (n - 1) 0 ≡ boxSquare n
+unfolding table rule boxSquare
 entry c =
     let n = c .before .args .n in
     let h : n - 1 < 255 = omega (arith, c .before .fits .n .fits) in
     let e : n - 1 + 1 ≡ n = omega arith in
     getD-tab 255 rule (n - 1) 0 h ∙ ap (λ x. x * x - 1) e
 
-small : (c : tie.Else1) → let n = c .before .args .n in n * n - 1 ≤ 65024
+small : (c : tie.Else1) → let n = c .before .args .n in boxSquare n ≤ 65024
+unfolding boxSquare
 small c =
     let n = c .before .args .n in
     let h : n ≤ 255 = omega (arith, c .before .fits .n .fits) in
     omega (arith, mul-le-mul h h)
 
 returns : tie.Need-returns
+unfolding boxSquare
 returns c = (ap (λ x. x * x - 1) (sym (c .if1 .taken)), search needs)
 
 sub-k : tie.Need-sub-k

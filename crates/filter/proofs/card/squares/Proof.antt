@@ -1,16 +1,16 @@
 -- `filter::card::squares` meets its contract: after i widths the sum is the total over them.
 -- Assumes nothing.
 use mathlib.Core.Path.{refl}
-use Prim.Native.Nat.{_-_, _*_}
+use Prim.Native.Nat.{_-_}
 use native.Mathlib.Omega.{arith}
 use borrow.Author.Needs.{needs}
-use Rattle.spec.specs.Gray.{squares}
+use Rattle.spec.specs.Gray.{boxSquare, squares}
 use Rattle.filter.proofs.Widths.{Summed, summed-none, summed-more, summed-all}
 use Rattle.filter.proofs.card.squares.Statement.{statement}
 use Rattle.filter.proofs.card.squares.Tie as tie
 
 abbrev Inv-loop : tie.InvT-loop
-Inv-loop list count sum₀ i₀ sum i = Summed (λ n. n * n - 1) 65024 list count i sum
+Inv-loop list count sum₀ i₀ sum i = Summed boxSquare 65024 list count i sum
 
 abbrev μ-loop : tie.MeasureT-loop
 μ-loop list count sum₀ i₀ sum i = count - i
@@ -19,10 +19,10 @@ cast-count : tie.Need-cast-count Inv-loop μ-loop
 cast-count c = search needs
 
 loop-holds : tie.Need-loop-holds Inv-loop μ-loop
-loop-holds c = summed-none (λ n. n * n - 1) 65024 (c .args .t1) _ refl (search needs)
+loop-holds c = summed-none boxSquare 65024 (c .args .t1) _ refl
 
-element-copy-out-square : tie.Need-element-copy-out-square Inv-loop μ-loop
-element-copy-out-square c = search needs
+width-at-requires : tie.Need-width-at-requires Inv-loop μ-loop
+width-at-requires c κs = search needs
 
 square-requires : tie.Need-square-requires Inv-loop μ-loop
 square-requires c κs = search needs
@@ -38,9 +38,9 @@ loop-less c = search needs
 
 loop-again : tie.Need-loop-again Inv-loop μ-loop
 loop-again c =
-    let start = c .before .before .before .before in
-    let turn = c .before .before .before .loop in
-    summed-more (λ n. n * n - 1) 65024 (start .args .t1) _ (turn .i) (turn .sum) (c .square .result) (turn .inv) (search needs) (start .pre)
+    let start = c .before .before .before .before .before .before .before in
+    let turn = c .before .before .before .before .before .before .loop in
+    summed-more boxSquare 65024 (start .args .t1) _ (turn .i) (turn .inv) _ (c .square .result) (search needs) (c .before .width-at .ensures)
     (c .square .ensures .0) (c .square .ensures .1)
 
 returns : tie.Need-returns Inv-loop μ-loop
@@ -48,7 +48,7 @@ unfolding squares
 returns c =
     let start = c .before .before in
     let turn = c .before .loop in
-    (summed-all (λ n. n * n - 1) 65024 (start .args .t1) _ (turn .i) (turn .sum) (turn .inv) (c .loop-test .left) (start .pre), omega arith)
+    (summed-all boxSquare 65024 (start .args .t1) _ (turn .i) (turn .inv) (c .loop-test .left), omega arith)
 
 pub squares-spec : {M : Type 1} → statement M
 squares-spec =
@@ -58,7 +58,7 @@ squares-spec =
     μ-loop
     cast-count
     loop-holds
-    element-copy-out-square
+    width-at-requires
     square-requires
     add-sum
     add-i

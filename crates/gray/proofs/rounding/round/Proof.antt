@@ -5,6 +5,7 @@ use mathlib.Core.Bool.{true, false}
 use native.Mathlib.Omega.{arith}
 use borrow.Author.Needs.{needs}
 use Rattle.spec.specs.Recipe.{recipe, gain}
+use Rattle.spec.specs.Picture.{largestGray}
 use Rattle.spec.specs.Refusals.{roundChecks, tooBright}
 use Rattle.filter.proofs.Refusal.{Known, known, measured-refused}
 use Rattle.gray.specs.Division.{divisor, Divides, Bounded}
@@ -38,11 +39,11 @@ over-requires : tie.Need-over-requires
 over-requires c κs = search needs
 
 -- the limit is 255 times the weight
-bright : (c : tie.After-over) → c .over .result ≡ tooBright (gain (recipe (c .before .before .before .before .before .before .before .args .filter))) (c .before .before .before .before .before .before .before .args .sums .now)
+bright : (c : tie.After-over) → c .over .result ≡ tooBright largestGray (gain (recipe (c .before .before .before .before .before .before .before .args .filter))) (c .before .before .before .before .before .before .before .args .sums .now)
 unfolding tooBright
 bright c =
     let k = accepted (c .before .before .before) in
-    c .over .ensures ∙ ap (λ g. tooBright g (c .before .before .before .before .before .before .before .args .sums .now)) (k .weight)
+    c .over .ensures ∙ ap (λ g. tooBright largestGray g (c .before .before .before .before .before .before .before .args .sums .now)) (k .weight)
 
 returns-3 : tie.Need-returns-3
 returns-3 c =
@@ -65,9 +66,9 @@ round-row-requires : tie.Need-round-row-requires
 round-row-requires c κs =
     let divided = c .before in
     let over = divided .before .before in
-    let bounded = none-bright _ _ (sym (bright over) ∙ divided .before .if3 .left) in (
+    let bounded = none-bright _ _ _ (sym (bright over) ∙ divided .before .if3 .left) in (
       divides-own _ _ (divides divided),
-      subst (λ w. Bounded w (c .before .before .before .before .before .before .before .before .before .before .args .sums .now)) (sym (own-weight _ _ (divides divided))) bounded,
+      subst (λ w. Bounded largestGray w (c .before .before .before .before .before .before .before .before .before .before .args .sums .now)) (sym (own-weight _ _ (divides divided))) bounded,
       sym (over .before .before .if2 .left),
     )
 

@@ -7,7 +7,7 @@ use native.Mathlib.Omega.{arith}
 use borrow.Author.Needs.{needs}
 use lib.ListN.{length, getD, take, drop}
 use Rattle.spec.specs.Recipe.{recipe, order}
-use Rattle.spec.specs.Picture.{fullWidth, fullHeight, fullRow}
+use Rattle.spec.specs.Picture.{largestGray, fullWidth, fullHeight, fullRow}
 use Rattle.spec.specs.Gray.{grays, places, sameRow, sameGray}
 use Rattle.laws.proofs.Numbers.{row-fits}
 use Rattle.laws.proofs.Slices.{Mixed, mixed-none, mixed-all, length-mixed, length-lent}
@@ -140,7 +140,7 @@ round-row-requires c κs =
     let d = start .pre .1 in
     let many : left + s .width - left ≡ s .width = omega arith in (
       divides-own _ _ d,
-      subst (λ w. Bounded w (take (left + s .width - left) (drop left (row .advance .last .1 .1 .0)))) (sym (own-weight _ _ d)) (taken-bounded r p _ _ (came row .1) left _ half many (bytes (c .before .before .before .before .before .before .before .before .before .before .before .before .before .before .before .before))),
+      subst (λ w. Bounded largestGray w (take (left + s .width - left) (drop left (row .advance .last .1 .1 .0)))) (sym (own-weight _ _ d)) (taken-bounded r p _ _ (came row .1) left _ half many largestGray (bytes (c .before .before .before .before .before .before .before .before .before .before .before .before .before .before .before .before))),
       taken-length r p _ _ (came row .1) left _ half many ∙ sym (length-lent (c .before .before .before .before .before .before .before .before .before .before .before .before .loop .from) (s .width) (c .before .before .before .before .before .before .before .before .before .before .before .before .loop .out) (inside (c .before .before .before .before .before .before .before .before .before .before .before))),
     )
 

@@ -2,15 +2,12 @@
 -- Assumes nothing.
 use lib.ListN.{replicate}
 use Rattle.laws.proofs.Slices.{Rightwards, rightwards-none, rightwards-more}
-use mathlib.Core.Bool.{true, cond}
-use lib.Dec.{ltb}
-use borrow.Author.Tests.{lt-ltb}
-use Rattle.job.proofs.Holding.{entered, held-so}
-use mathlib.Core.Path.{_≡_, refl, sym, ap}
-use Prim.Native.Nat.{_+_, _-_, _≤_, _<_}
+use Rattle.job.proofs.Holding.{entered, entered-at, held-so}
+use mathlib.Core.Path.{_≡_, refl}
+use Prim.Native.Nat.{_-_, _≤_, _<_}
 use native.Mathlib.Omega.{arith}
 use borrow.Author.Needs.{needs}
-use lib.ListN.{length, getD, length-set}
+use lib.ListN.{length, length-set}
 use Rattle.job.proofs.reading.cascade_at.Statement.{statement}
 use Rattle.job.proofs.reading.cascade_at.Tie as tie
 
@@ -44,23 +41,22 @@ loop-less : tie.Need-loop-less Inv-loop μ-loop
 loop-less c = search needs
 
 loop-again : tie.Need-loop-again Inv-loop μ-loop
-unfolding entered
 loop-again c =
     let turn = c .before .before .loop in
     let a = c .before .before .before .before .before .args in
     let fits : turn .k < 48 = omega (arith, c .before .before .before .before .before .pre) in
-    let here : ltb (turn .k) (a .count) ≡ true = lt-ltb (turn .k) (a .count) (search needs) in (
+    let here : turn .k < a .count = search needs in (
       search needs,
       simp length-set (turn .inv .1),
       search needs,
       rightwards-more (entered (a .bytes .now) (a .at) (a .count)) (replicate 48 0) _ (turn .inv .3) fits
-          (sym (ap (λ b. cond b (getD (a .bytes .now) (a .at + turn .k) 0) 0) here)),
+          (entered-at (a .bytes .now) (a .at) (a .count) (turn .k) here),
     )
 
 returns : tie.Need-returns Inv-loop μ-loop
 returns c =
     let a = c .before .before .before .before .args in
-    held-so (a .bytes .now) (a .at) (a .count) (c .before .before .before .before .pre .0) (omega arith) (c .before .loop .inv .3)
+    held-so (a .bytes .now) (a .at) (a .count) (omega arith) (c .before .loop .inv .3)
 
 pub cascade-at-spec : {M : Type 1} → statement M
 cascade-at-spec =

@@ -9,13 +9,13 @@ use borrow.Author.Needs.{needs}
 use lib.ListN.{getD}
 use Rattle.spec.specs.declared.Filter.{Filter}
 use Rattle.spec.specs.Words.{part}
-use Rattle.spec.specs.Recipe.{recipe}
+use Rattle.spec.specs.Recipe.{recipe, held, heldFilter}
 use Rattle.spec.specs.Job.{read16, jobRecipe, jobWidth, jobHeight, jobOffset, jobLength}
 use Rattle.spec.specs.Refusals.{first, sizeChecks}
 use Rattle.laws.proofs.Lists.{length-part}
 use Rattle.laws.proofs.Refusals.{read-refused, read-accepted, is-sized}
 use Rattle.filter.specs.Answers.{sizeTold}
-use Rattle.job.specs.Answers.{held, heldFilter, jobTold}
+use Rattle.job.specs.Answers.{jobTold}
 use Rattle.job.proofs.Holding.{held-recipe}
 use Rattle.job.proofs.Answering.{area, job-length, rest-sides, rest-total, rest-all}
 use Rattle.job.proofs.reading.rest.Statement.{statement}

@@ -10,7 +10,7 @@ use Rattle.passes.proofs.cascades.pass.Tie as tie
 row-pass-requires : tie.Need-row-pass-requires
 row-pass-requires c κs =
     let start = c .before .before .before .before in
-    rw (c .before .if1 .taken) at (start .pre .0)
+    rw (c .before .if1 .taken) at (start .pre)
 
 column-pass-requires : tie.Need-column-pass-requires
 column-pass-requires c κs =

@@ -22,7 +22,7 @@ pass-requires : tie.Need-pass-requires
 pass-requires c κs =
     let start = c .before .before .before .before .before .before in
     let r = rw (c .before .before .if2 .taken) at (start .pre .0) in
-    (record { wide = r .wide; size = start .pre .1; small = r .small }, start .pre .2)
+    record { apart = r .apart; wide = r .wide; offsets = r .offsets; size = start .pre .1; small = r .small }
 
 same-length : tie.Need-same-length
 same-length c = search needs
@@ -40,7 +40,7 @@ returns-2 c =
     let args = start .args in (
       rw (if2 .taken) (simp (ne-eqb _ _ (if1 .left))),
       λ k h.
-          pass .ensures k (omega (arith, pass .kept .1 .1 .1 .1 .0, start .pre .1))
+          pass .ensures k (omega (arith, pass .kept .1 .1 .1 .0, start .pre .1))
           ∙ ap (λ b. spread (args .step) (args .n) (at (present b (args .out .now) (args .work .now))) k) (sym (if2 .taken)),
     )
 
@@ -48,10 +48,7 @@ pass-requires-2 : tie.Need-pass-requires-2
 pass-requires-2 c κs =
     let start = c .before .before .before .before .before .before in
     let r = rw (c .before .before .if2 .left) at (start .pre .0) in
-    let grid = start .pre .2 in (
-      record { wide = r .wide; size = sym (start .pre .1); small = r .small },
-      record { some = grid .some; size = start .pre .1 ∙ grid .size; offsets = grid .offsets },
-    )
+    record { apart = r .apart; wide = r .wide; offsets = r .offsets; size = sym (start .pre .1); small = r .small }
 
 same-length-3 : tie.Need-same-length-3
 same-length-3 c = search needs
@@ -69,7 +66,7 @@ returns-3 c =
     let args = start .args in (
       rw (if2 .left) (simp (ne-eqb _ _ (if1 .left))),
       λ k h.
-          pass2 .ensures k (omega (arith, pass2 .kept .1 .1 .1 .1 .0))
+          pass2 .ensures k (omega (arith, pass2 .kept .1 .1 .1 .0))
           ∙ ap (λ b. spread (args .step) (args .n) (at (present b (args .out .now) (args .work .now))) k) (sym (if2 .left)),
     )
 

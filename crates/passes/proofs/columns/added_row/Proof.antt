@@ -13,12 +13,12 @@ use Rattle.passes.proofs.columns.added_row.Statement.{statement}
 use Rattle.passes.proofs.columns.added_row.Tie as tie
 
 abbrev Inv-loop : tie.InvT-loop
-Inv-loop step here src dst₀ above i₀ dst i =
-    (above + step ≡ here) × (length dst ≡ length dst₀) × (i ≤ step)
+Inv-loop step here width src dst₀ above i₀ dst i =
+    (above + step ≡ here) × (length dst ≡ length dst₀) × (i ≤ width)
     × Rewritten here (here + i) (λ k. at dst₀ (k - step) + at src k) dst₀ dst
 
 abbrev μ-loop : tie.MeasureT-loop
-μ-loop step here src dst₀ above i₀ dst i = step - i
+μ-loop step here width src dst₀ above i₀ dst i = width - i
 
 sub-above : tie.Need-sub-above Inv-loop μ-loop
 sub-above c = search needs
@@ -54,7 +54,7 @@ add-dst-3 c =
     let args = start .args in
     let turn = c .before .before .before .loop in
     let sum = sum-above (args .step) (args .here) (turn .i) (args .src .now) _ (args .dst .now) (turn .dst) (turn .inv .3) (omega arith) (omega arith) in
-    omega (arith, sum, start .pre .3 (args .here + turn .i) (omega arith) (omega arith))
+    omega (arith, sum, start .pre .4 (args .here + turn .i) (omega arith) (omega arith))
 
 add-dst-4 : tie.Need-add-dst-4 Inv-loop μ-loop
 add-dst-4 c = search needs
@@ -90,7 +90,7 @@ same-length c = search needs
 returns : tie.Need-returns Inv-loop μ-loop
 returns c =
     let turn = c .before .loop in
-    let e : turn .i ≡ c .before .before .args .step = omega arith in
+    let e : turn .i ≡ c .before .before .args .width = omega arith in
     rw e at (turn .inv .3)
 
 pub added-row-spec : {M : Type 1} → statement M

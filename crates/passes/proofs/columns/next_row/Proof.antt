@@ -16,7 +16,7 @@ added-row-requires : tie.Need-added-row-requires
 added-row-requires c κs =
     let start = c .before .before .before .before in
     let args = start .args in
-    (search needs, search needs, search needs, λ k g l. sum-fits (args .step) (args .n) _ _ (args .here) (start .pre .0) (start .pre .2) (start .pre .5) k g l (omega arith))
+    (search needs, search needs, search needs, search needs, λ k g l. sum-fits (args .step) (args .n) _ _ (args .here) (start .pre .0) (start .pre .1) (start .pre .5) k g (omega arith) (omega arith))
 
 slid-row-requires : tie.Need-slid-row-requires
 slid-row-requires c κs =
@@ -26,8 +26,9 @@ slid-row-requires c κs =
       search needs,
       search needs,
       search needs,
-      λ k g l. sum-fits (args .step) (args .n) _ _ (args .here) (start .pre .0) (start .pre .2) (start .pre .5) k g l (omega arith),
-      λ k g l. omega (arith, sum-moves (args .step) (args .n) _ _ (args .here) (start .pre .0) (start .pre .2) (start .pre .5) k g l (omega arith)),
+      search needs,
+      λ k g l. sum-fits (args .step) (args .n) _ _ (args .here) (start .pre .0) (start .pre .1) (start .pre .5) k g (omega arith) (omega arith),
+      λ k g l. omega (arith, sum-moves (args .step) (args .n) _ _ (args .here) (start .pre .0) (start .pre .1) (start .pre .5) k g (omega arith) (omega arith)),
     )
 
 same-length : tie.Need-same-length
@@ -38,7 +39,7 @@ returns c =
     let start = c .before .before .before .before .before .before .before in
     let args = start .args in
     below-rewritten (spread (args .step) (args .n) (at (args .src .now))) _ (args .here) _ (args .dst .now) _ (start .pre .5) (c .before .before .added-row .ensures)
-    (λ k g l. sum-grows (args .step) (args .n) _ _ (args .here) (start .pre .0) (start .pre .2) (start .pre .5) k g l (omega (arith, start .pre .4 (c .before .before .before .before .if1 .taken))))
+    (λ k g l. sum-grows (args .step) (args .n) _ _ (args .here) (start .pre .0) (start .pre .1) (start .pre .5) k g (omega arith) (omega (arith, start .pre .4 (c .before .before .before .before .if1 .taken))))
 
 same-length-2 : tie.Need-same-length-2
 same-length-2 c = search needs
@@ -48,7 +49,7 @@ returns-2 c =
     let start = c .before .before .before .before .before .before .before in
     let args = start .args in
     below-rewritten (spread (args .step) (args .n) (at (args .src .now))) _ (args .here) _ (args .dst .now) _ (start .pre .5) (c .before .before .slid-row .ensures)
-    (λ k g l. omega (arith, sum-moves (args .step) (args .n) _ _ (args .here) (start .pre .0) (start .pre .2) (start .pre .5) k g l (omega arith)))
+    (λ k g l. omega (arith, sum-moves (args .step) (args .n) _ _ (args .here) (start .pre .0) (start .pre .1) (start .pre .5) k g (omega arith) (omega arith)))
 
 pub next-row-spec : {M : Type 1} → statement M
 next-row-spec =

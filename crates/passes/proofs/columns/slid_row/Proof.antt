@@ -13,12 +13,12 @@ use Rattle.passes.proofs.columns.slid_row.Statement.{statement}
 use Rattle.passes.proofs.columns.slid_row.Tie as tie
 
 abbrev Inv-loop : tie.InvT-loop
-Inv-loop step here span src dst₀ above gone i₀ dst i =
-    (above + step ≡ here) × (gone + span ≡ here) × (length dst ≡ length dst₀) × (i ≤ step)
+Inv-loop step here width span src dst₀ above gone i₀ dst i =
+    (above + step ≡ here) × (gone + span ≡ here) × (length dst ≡ length dst₀) × (i ≤ width)
     × Rewritten here (here + i) (λ k. at dst₀ (k - step) + at src k - at src (k - span)) dst₀ dst
 
 abbrev μ-loop : tie.MeasureT-loop
-μ-loop step here span src dst₀ above gone i₀ dst i = step - i
+μ-loop step here width span src dst₀ above gone i₀ dst i = width - i
 
 sub-above : tie.Need-sub-above Inv-loop μ-loop
 sub-above c = search needs
@@ -57,7 +57,7 @@ add-dst-3 c =
     let args = start .args in
     let turn = c .before .before .before .loop in
     let sum = sum-above (args .step) (args .here) (turn .i) (args .src .now) _ (args .dst .now) (turn .dst) (turn .inv .4) (omega arith) (omega arith) in
-    omega (arith, sum, start .pre .4 (args .here + turn .i) (omega arith) (omega arith))
+    omega (arith, sum, start .pre .5 (args .here + turn .i) (omega arith) (omega arith))
 
 add-dst-4 : tie.Need-add-dst-4 Inv-loop μ-loop
 add-dst-4 c = search needs
@@ -86,7 +86,7 @@ sub-dst c =
     let args = start .args in
     let turn = c .before .before .before .before .loop in
     let sum = sum-above (args .step) (args .here) (turn .i) (args .src .now) _ (args .dst .now) (turn .dst) (turn .inv .4) (omega arith) (omega arith) in
-    omega (arith, sum, out c, start .pre .5 (args .here + turn .i) (omega arith) (omega arith))
+    omega (arith, sum, out c, start .pre .6 (args .here + turn .i) (omega arith) (omega arith))
 
 add-dst-5 : tie.Need-add-dst-5 Inv-loop μ-loop
 add-dst-5 c = search needs
@@ -123,7 +123,7 @@ same-length c = search needs
 returns : tie.Need-returns Inv-loop μ-loop
 returns c =
     let turn = c .before .loop in
-    let e : turn .i ≡ c .before .before .args .step = omega arith in
+    let e : turn .i ≡ c .before .before .args .width = omega arith in
     rw e at (turn .inv .4)
 
 pub slid-row-spec : {M : Type 1} → statement M

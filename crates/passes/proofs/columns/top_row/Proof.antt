@@ -12,10 +12,10 @@ use Rattle.passes.proofs.columns.top_row.Statement.{statement}
 use Rattle.passes.proofs.columns.top_row.Tie as tie
 
 abbrev Inv-loop : tie.InvT-loop
-Inv-loop step src dst₀ i₀ dst i = (length dst ≡ length dst₀) × (i ≤ step) × Rewritten 0 i (at src) dst₀ dst
+Inv-loop width src dst₀ i₀ dst i = (length dst ≡ length dst₀) × (i ≤ width) × Rewritten 0 i (at src) dst₀ dst
 
 abbrev μ-loop : tie.MeasureT-loop
-μ-loop step src dst₀ i₀ dst i = step - i
+μ-loop width src dst₀ i₀ dst i = width - i
 
 loop-holds : tie.Need-loop-holds Inv-loop μ-loop
 loop-holds c = (refl, search needs, rewritten-none 0 (at (c .args .src .now)) _)
@@ -53,7 +53,7 @@ same-length c = search needs
 returns : tie.Need-returns Inv-loop μ-loop
 returns c =
     let turn = c .before .loop in
-    let e : turn .i ≡ c .before .before .args .step = omega arith in
+    let e : turn .i ≡ c .before .before .args .width = omega arith in
     rw e at (turn .inv .2)
 
 pub top-row-spec : {M : Type 1} → statement M

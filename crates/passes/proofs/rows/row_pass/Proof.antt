@@ -1,6 +1,7 @@
 -- `passes::rows::row_pass` meets its contract, by those of its two parts.
 -- Assumes nothing.
 use borrow.Author.Needs.{needs}
+use Rattle.passes.proofs.Running.{still-ready}
 use Rattle.passes.proofs.rows.row_pass.Statement.{statement}
 use Rattle.passes.proofs.rows.row_pass.Tie as tie
 
@@ -11,7 +12,7 @@ slide-requires : tie.Need-slide-requires
 slide-requires c κs =
     let start = c .before .before .before .before .before .before .before in
     let rise = c .before .before .before .rise in
-    (record { wide = start .pre .wide; size = search needs; small = start .pre .small }, rise .ensures .0, rise .ensures .1)
+    (still-ready 1 (start .args .n) _ (start .args .dst .now) _ (start .pre) (rise .kept .1 .1 .0), rise .ensures .0, rise .ensures .1)
 
 same-length : tie.Need-same-length
 same-length c = search needs

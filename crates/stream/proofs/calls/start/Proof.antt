@@ -68,19 +68,22 @@ part-clear-end c = search needs
 clear-requires : tie.Need-clear-requires
 clear-requires c κs = search needs
 
+state-at-requires : tie.Need-state-at-requires
+state-at-requires c κs = search needs
+
 same-length : tie.Need-same-length
 same-length c = search needs
 
 returns-3 : tie.Need-returns-3
 unfolding start began started
 returns-3 c =
-    let two = c .before .before .before .before in
+    let two = c .before .before .before .before .before in
     let e = two .before in
     let a = e .before .before .before .args in
     let needed = e .before .sizes-of .ensures .told (e .if1 .left) .cells in
     let is = eight e ∙ ap (λ b. cond b 8 0) (le-ltb _ _ (two .if2 .left)) in
-    let now = cleared (e .before .sizes-of .result .cells) (a .cells .now) _ (two .if2 .left) (c .before .before .clear .ensures) ∙ ap (λ n. replicate n 0 ++ drop n (a .cells .now)) needed in
-    (λ i. record { number = 0; state = record { filter = a .filter; width = a .width; height = a .height; emitted = 0 }; cells = now i }) ∙ sym (lent-accepted _ _ _ is)
+    let now = cleared (e .before .sizes-of .result .cells) (a .cells .now) _ (two .if2 .left) (c .before .before .before .clear .ensures) ∙ ap (λ n. replicate n 0 ++ drop n (a .cells .now)) needed in
+    (λ i. record { number = 0; state = c .state-at .ensures i; cells = now i }) ∙ sym (lent-accepted _ _ _ is)
 
 pub start-spec : {M : Type 1} → statement M
 start-spec =
@@ -96,5 +99,6 @@ start-spec =
     part-clear-start
     part-clear-end
     clear-requires
+    state-at-requires
     same-length
     returns-3)

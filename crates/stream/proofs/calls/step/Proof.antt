@@ -30,13 +30,16 @@ work-requires c κs =
       le-trans (le-of-eq (ap (λ n. cascadeCells (widths (f .rows)) + n * cascadeCells (widths (f .columns))) (k .output))) (k .enough),
     )
 
-add-t10 : tie.Need-add-t10
+add-state-at : tie.Need-add-state-at
 unfolding stateOf fullHeight
-add-t10 c =
+add-state-at c =
     let start = c .before .before .before .before .before .before .before .before .before .before .before in
     let k = start .pre in
     let a = is-sized _ _ _ (k .sizes) in
     record { fits = omega (arith, k .due, a .0 .columnReach, a .1 .height) }
+
+state-at-requires : tie.Need-state-at-requires
+state-at-requires c κs = search needs
 
 same-length : tie.Need-same-length
 same-length c = search needs
@@ -47,11 +50,11 @@ same-length-2 c = search needs
 returns : tie.Need-returns
 unfolding stateOf called steps next rowCost recipe
 returns c =
-    let start = c .before .before .before .before .before .before .before .before .before .before .before in
+    let start = c .before .before .before .before .before .before .before .before .before .before .before .before in
     let s = start .args .state in
-    let done = c .before .before .before .before .before .work .ensures in
+    let done = c .before .before .before .before .before .before .work .ensures in
     let count = done .0 ∙ ap (λ n. n * (cascadeCost (widths (s .filter .rows)) + cascadeCost (widths (s .filter .columns)))) (start .pre .output) in
-    λ i. record { number = 0; state = next s; count = count i; out = done .1 i; cells = done .2 i }
+    λ i. record { number = 0; state = c .state-at .ensures i; count = count i; out = done .1 i; cells = done .2 i }
 
 pub step-spec : {M : Type 1} → statement M
-step-spec = tie.close (tie.spec work-requires add-t10 same-length same-length-2 returns)
+step-spec = tie.close (tie.spec work-requires add-state-at state-at-requires same-length same-length-2 returns)

@@ -5,23 +5,23 @@ use Rattle.spec.specs.Words.{total}
 use Rattle.spec.specs.Recipe.{widths}
 use Rattle.spec.specs.Stream.{boxCells, boxCost, cascadeCells, cascadeCost}
 use Rattle.laws.proofs.Lists.{total-scale}
-use Rattle.filter.proofs.Widths.{widths-from, length-widths}
+use Rattle.filter.proofs.Widths.{length-widths, widths-on}
 use Rattle.stream.specs.Stages.{columnStage}
 use Rattle.stream.proofs.Boxes.{cascade-small}
 use Rattle.stream.proofs.Left.{Left, left-none, left-room, left-count, left-more, left-all}
-use mathlib.Core.Path.{_≡_, refl, ap, ap₂, _∙_}
+use mathlib.Core.Path.{_≡_, refl, sym, ap, ap₂, _∙_}
 use mathlib.Core.List.{_∷_}
 use Prim.Native.Nat.{suc, _+_, _-_, _*_, _≤_, _<_}
 use native.Mathlib.Omega.{arith}
 use borrow.Author.Needs.{needs}
-use lib.ListN.{length, getD, drop, length-drop}
+use lib.ListN.{length, drop, length-drop}
 use lib.Seq.{length-take-le}
 use Rattle.stream.proofs.cascades.down.Statement.{statement}
 use Rattle.stream.proofs.cascades.down.Tie as tie
 
 abbrev Inv-loop : tie.InvT-loop
 Inv-loop emitted row₀ cells₀ list count total₀ start₀ j₀ row cells total start j =
-    (count ≡ list .count) × (list .count ≤ 48) × (length (list .widths) ≡ 48) × (0 < length row₀) × (length row₀ ≤ 1279)
+    (count ≡ list .count) × (list .count ≤ 48) × (0 < length row₀) × (length row₀ ≤ 1279)
     × (length row ≡ length row₀) × (length cells ≡ length cells₀)
     × Left (λ n. length row₀ * boxCells n) boxCost (columnStage emitted) (widths list) row₀ cells₀ j row cells start total
 
@@ -38,47 +38,47 @@ loop-holds c =
     let a = start .args in
     let w = length (a .row .now) in
     let room : total (λ n. w * boxCells n) (widths (a .t1)) ≤ length (a .cells .now) = le-trans (le-of-eq (total-scale boxCells w (widths (a .t1)))) (start .pre .3) in
-    (refl, start .pre .0, search needs, start .pre .1, start .pre .2, refl, refl, left-none (λ n. w * boxCells n) boxCost (columnStage (a .emitted)) (widths (a .t1)) (a .row .now) (a .cells .now) room)
+    (refl, start .pre .0, start .pre .1, start .pre .2, refl, refl, left-none (λ n. w * boxCells n) boxCost (columnStage (a .emitted)) (widths (a .t1)) (a .row .now) (a .cells .now) room)
 
-element-copy-out-n : tie.Need-element-copy-out-n Inv-loop μ-loop
-element-copy-out-n c = search needs
+width-at-requires : tie.Need-width-at-requires Inv-loop μ-loop
+width-at-requires c κs = search needs
 
 box-cells-requires : tie.Need-box-cells-requires Inv-loop μ-loop
 box-cells-requires c κs = search needs
 
 -- the width that comes next
-more : (c : tie.After-n Inv-loop μ-loop) → let now = c .before .before .loop in let list = c .before .before .before .before .before .args .t1 in
-    drop (now .j) (widths list) ≡ getD (list .widths) (now .j) 0 ∷ drop (suc (now .j)) (widths list)
+more : (c : tie.After-width-at Inv-loop μ-loop) → let now = c .before .before .before .before .before .loop in let list = c .before .before .before .before .before .before .before .before .args .t1 in
+    drop (now .j) (widths list) ≡ c .width-at .result ∷ drop (suc (now .j)) (widths list)
 more c =
-    let now = c .before .before .loop in
-    let list = c .before .before .before .before .before .args .t1 in
-    widths-from list (now .j) (now .inv .1) (now .inv .2) (omega arith)
+    let now = c .before .before .before .before .before .loop in
+    let list = c .before .before .before .before .before .before .before .before .args .t1 in
+    widths-on list (now .j) (omega arith) ∙ ap (λ n. n ∷ drop (suc (now .j)) (widths list)) (sym (c .width-at .ensures))
 
 -- its cells are there, and the count stays small
-next : (c : tie.After-box-cells Inv-loop μ-loop) → let now = c .before .before .before .loop in let a = c .before .before .before .before .before .before .args in
+next : (c : tie.After-box-cells Inv-loop μ-loop) → let now = c .before .before .before .before .before .before .loop in let a = c .before .before .before .before .before .before .before .before .before .args in
     record {
       room : now .start + length (now .row) * c .box-cells .result ≤ length (now .cells);
-      size : length (now .row) * c .box-cells .result ≡ length (a .row .now) * boxCells (getD (a .t1 .widths) (now .j) 0);
-      small : now .total + length (a .row .now) * boxCost (getD (a .t1 .widths) (now .j) 0) ≤ 1279 * 96;
+      size : length (now .row) * c .box-cells .result ≡ length (a .row .now) * boxCells (c .before .width-at .result);
+      small : now .total + length (a .row .now) * boxCost (c .before .width-at .result) ≤ 1279 * 96;
     }
 next c =
-    let now = c .before .before .before .loop in
-    let a = c .before .before .before .before .before .before .args in
-    let n = getD (a .t1 .widths) (now .j) 0 in
-    let l = now .inv .7 in
+    let now = c .before .before .before .before .before .before .loop in
+    let a = c .before .before .before .before .before .before .before .before .before .args in
+    let n = c .before .width-at .result in
+    let l = now .inv .6 in
     let w = length (a .row .now) in
     let stage = columnStage (a .emitted) in
-    let size : length (now .row) * c .box-cells .result ≡ w * boxCells n = ap₂ _*_ (now .inv .5) (c .box-cells .ensures .0) in
+    let size : length (now .row) * c .box-cells .result ≡ w * boxCells n = ap₂ _*_ (now .inv .4) (c .box-cells .ensures .0) in
     record {
       size = size;
       room = omega (arith, left-room (λ n. w * boxCells n) boxCost stage _ _ _ _ _ _ _ _ l n (more (c .before)), size);
-      small = le-trans (left-count (λ n. w * boxCells n) boxCost stage _ _ _ _ _ _ _ _ l n (more (c .before))) (cascade-small (a .t1) (length (a .row .now)) (now .inv .1) (now .inv .4));
+      small = le-trans (left-count (λ n. w * boxCells n) boxCost stage _ _ _ _ _ _ _ _ l n (more (c .before))) (cascade-small (a .t1) (length (a .row .now)) (now .inv .1) (now .inv .3));
     }
 
 -- the product is small
-few : (c : tie.After-box-cells Inv-loop μ-loop) → let now = c .before .before .before .loop in length (now .row) * c .box-cells .result ≤ 1279 * 255
+few : (c : tie.After-box-cells Inv-loop μ-loop) → let now = c .before .before .before .before .before .before .loop in length (now .row) * c .box-cells .result ≤ 1279 * 255
 few c =
-    let now = c .before .before .before .loop in
+    let now = c .before .before .before .before .before .before .loop in
     let wide : length (now .row) ≤ 1279 = omega arith in
     mul-le-mul wide (c .box-cells .ensures .1)
 
@@ -102,7 +102,7 @@ part-column-box-end c = omega (arith, next (c .before) .room)
 
 column-box-requires : tie.Need-column-box-requires Inv-loop μ-loop
 column-box-requires c κs =
-    let now = c .before .before .before .before .before .loop in
+    let now = c .before .before .before .before .before .before .before .before .loop in
     let k = next (c .before .before) in
     let few = c .before .before .box-cells in
     let u : now .start + length (now .row) * few .result - now .start ≡ length (now .row) * few .result = omega arith in (
@@ -112,12 +112,12 @@ column-box-requires c κs =
     )
 
 -- what the stage adds to the count
-added : (c : tie.After-column-box Inv-loop μ-loop) → let now = c .before .before .before .before .before .before .loop in let a = c .before .before .before .before .before .before .before .before .before .args in
-    c .column-box .result ≡ length (a .row .now) * boxCost (getD (a .t1 .widths) (now .j) 0)
+added : (c : tie.After-column-box Inv-loop μ-loop) → let now = c .before .before .before .before .before .before .before .before .before .loop in let a = c .before .before .before .before .before .before .before .before .before .before .before .before .args in
+    c .column-box .result ≡ length (a .row .now) * boxCost (c .before .before .before .before .width-at .result)
 added c =
-    let now = c .before .before .before .before .before .before .loop in
-    let a = c .before .before .before .before .before .before .before .before .before .args in
-    c .column-box .ensures .0 ∙ ap (λ k. k * boxCost (getD (a .t1 .widths) (now .j) 0)) (now .inv .5)
+    let now = c .before .before .before .before .before .before .before .before .before .loop in
+    let a = c .before .before .before .before .before .before .before .before .before .before .before .before .args in
+    c .column-box .ensures .0 ∙ ap (λ k. k * boxCost (c .before .before .before .before .width-at .result)) (now .inv .4)
 
 add-total : tie.Need-add-total Inv-loop μ-loop
 add-total c = record { fits = omega (arith, next (c .before .before .before .before .before .before .before) .small, added (c .before .before .before .before)) }
@@ -130,15 +130,15 @@ loop-less c = search needs
 
 loop-again : tie.Need-loop-again Inv-loop μ-loop
 loop-again c =
-    let now = c .before .before .before .before .before .before .before .before .before .before .loop in
-    let a = c .before .before .before .before .before .before .before .before .before .before .before .before .before .args in
+    let now = c .before .before .before .before .before .before .before .before .before .before .before .before .before .loop in
+    let a = c .before .before .before .before .before .before .before .before .before .before .before .before .before .before .before .before .args in
     let box = c .before .before .before .before .column-box in
     let size = c .before .before .before .before .before .before .before .box-cells in
-    let l = left-more (λ n. length (a .row .now) * boxCells n) boxCost (columnStage (a .emitted)) _ _ _ (now .j) (now .row) (now .cells) (now .start) (now .total) (now .inv .7)
-    (getD (a .t1 .widths) (now .j) 0) (more (c .before .before .before .before .before .before .before .before)) (box .result) (now .start + length (now .row) * size .result) _ _ _
+    let l = left-more (λ n. length (a .row .now) * boxCells n) boxCost (columnStage (a .emitted)) _ _ _ (now .j) (now .row) (now .cells) (now .start) (now .total) (now .inv .6)
+    (c .before .before .before .before .before .before .before .before .width-at .result) (more (c .before .before .before .before .before .before .before .before)) (box .result) (now .start + length (now .row) * size .result) _ _ _
     (added (c .before .before .before .before)) (ap (λ k. now .start + k) (next (c .before .before .before .before .before .before .before) .size)) refl (box .ensures .1) (box .ensures .2) (box .kept .1 .1 .0) (box .kept .1 .1 .1 .0)
     (omega (arith, length-widths (a .t1), now .inv .0)) in
-    (now .inv .0, now .inv .1, now .inv .2, now .inv .3, now .inv .4, l .width, l .count, l)
+    (now .inv .0, now .inv .1, now .inv .2, now .inv .3, l .width, l .count, l)
 
 same-length : tie.Need-same-length Inv-loop μ-loop
 same-length c = search needs
@@ -151,7 +151,7 @@ unfolding cascadeCost
 returns c =
     let now = c .before .loop in
     let a = c .before .before .before .before .args in
-    let done = left-all (λ n. length (a .row .now) * boxCells n) boxCost (columnStage (a .emitted)) _ _ _ _ _ _ _ _ (now .inv .7) (omega (arith, length-widths (a .t1), now .inv .0)) in
+    let done = left-all (λ n. length (a .row .now) * boxCells n) boxCost (columnStage (a .emitted)) _ _ _ _ _ _ _ _ (now .inv .6) (omega (arith, length-widths (a .t1), now .inv .0)) in
     (done .count, done .row, done .cells)
 
 pub down-spec : {M : Type 1} → statement M
@@ -162,7 +162,7 @@ down-spec =
     μ-loop
     cast-count
     loop-holds
-    element-copy-out-n
+    width-at-requires
     box-cells-requires
     mul-end
     add-end

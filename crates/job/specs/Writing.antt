@@ -8,7 +8,7 @@ use Rattle.spec.specs.Picture.{Picture}
 use Rattle.spec.specs.Job.{jobBytes}
 use Rattle.spec.specs.Refusals.{first, lent, writeChecks}
 
-pub record Written (r : Recipe) (p : Picture) (out : List ℕ) (number : ℕ) (newOut : List ℕ) : Type 0 where
+pub record JobWritten (r : Recipe) (p : Picture) (out : List ℕ) (number : ℕ) (newOut : List ℕ) : Type 0 where
   -- 0, or the number of the first check that holds
   pub answer : number ≡ first (writeChecks r p (length out))
   -- the bytes of the job, or on a refusal what the slice held

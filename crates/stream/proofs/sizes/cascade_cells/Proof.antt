@@ -1,13 +1,13 @@
--- `filter::sizes::cascade_cells` meets its contract: after i widths the cells are the total over them.
+-- `stream::sizes::cascade_cells` meets its contract: after i widths the cells are the total over them.
 -- Assumes nothing.
 use mathlib.Core.Path.{refl}
 use Prim.Native.Nat.{_-_}
 use native.Mathlib.Omega.{arith}
 use borrow.Author.Needs.{needs}
 use Rattle.spec.specs.Stream.{boxCells, cascadeCells}
 use Rattle.filter.proofs.Widths.{Summed, summed-none, summed-more, summed-all}
-use Rattle.filter.proofs.sizes.cascade_cells.Statement.{statement}
-use Rattle.filter.proofs.sizes.cascade_cells.Tie as tie
+use Rattle.stream.proofs.sizes.cascade_cells.Statement.{statement}
+use Rattle.stream.proofs.sizes.cascade_cells.Tie as tie
 
 abbrev Inv-loop : tie.InvT-loop
 Inv-loop list count cells₀ i₀ cells i = Summed boxCells 255 list count i cells
@@ -19,10 +19,10 @@ cast-count : tie.Need-cast-count Inv-loop μ-loop
 cast-count c = search needs
 
 loop-holds : tie.Need-loop-holds Inv-loop μ-loop
-loop-holds c = summed-none boxCells 255 (c .args .t1) _ refl (search needs)
+loop-holds c = summed-none boxCells 255 (c .args .t1) _ refl
 
-element-copy-out-box-cells : tie.Need-element-copy-out-box-cells Inv-loop μ-loop
-element-copy-out-box-cells c = search needs
+width-at-requires : tie.Need-width-at-requires Inv-loop μ-loop
+width-at-requires c κs = search needs
 
 box-cells-requires : tie.Need-box-cells-requires Inv-loop μ-loop
 box-cells-requires c κs = search needs
@@ -38,9 +38,9 @@ loop-less c = search needs
 
 loop-again : tie.Need-loop-again Inv-loop μ-loop
 loop-again c =
-    let start = c .before .before .before .before in
-    let now = c .before .before .before .loop in
-    summed-more boxCells 255 (start .args .t1) _ (now .i) (now .cells) (c .box-cells .result) (now .inv) (search needs) (start .pre)
+    let start = c .before .before .before .before .before .before .before in
+    let now = c .before .before .before .before .before .before .loop in
+    summed-more boxCells 255 (start .args .t1) _ (now .i) (now .inv) _ (c .box-cells .result) (search needs) (c .before .width-at .ensures)
     (c .box-cells .ensures .0) (c .box-cells .ensures .1)
 
 returns : tie.Need-returns Inv-loop μ-loop
@@ -48,7 +48,7 @@ unfolding cascadeCells
 returns c =
     let start = c .before .before in
     let now = c .before .loop in
-    (summed-all boxCells 255 (start .args .t1) _ (now .i) (now .cells) (now .inv) (c .loop-test .left) (start .pre), omega arith)
+    (summed-all boxCells 255 (start .args .t1) _ (now .i) (now .inv) (c .loop-test .left), omega arith)
 
 pub cascade-cells-spec : {M : Type 1} → statement M
 cascade-cells-spec =
@@ -58,7 +58,7 @@ cascade-cells-spec =
     μ-loop
     cast-count
     loop-holds
-    element-copy-out-box-cells
+    width-at-requires
     box-cells-requires
     add-cells
     add-i

@@ -1,11 +1,11 @@
--- `filter::sizes::box_cells` meets its contract, by the tests on the way.
+-- `stream::sizes::box_cells` meets its contract, by the tests on the way.
 -- Assumes nothing.
 use native.Mathlib.Omega.{arith}
 use borrow.Author.Needs.{needs}
 use borrow.Author.Tests.{lt-ltb, le-ltb, eq-eqb, ne-eqb}
 use Rattle.spec.specs.Stream.{boxCells}
-use Rattle.filter.proofs.sizes.box_cells.Statement.{statement}
-use Rattle.filter.proofs.sizes.box_cells.Tie as tie
+use Rattle.stream.proofs.sizes.box_cells.Statement.{statement}
+use Rattle.stream.proofs.sizes.box_cells.Tie as tie
 
 returns : tie.Need-returns
 unfolding boxCells
