@@ -11,8 +11,8 @@ fn main() {
     }
     let z: usize = 0;
     let count = input.count;
-    let is_printed = console::print_report(&bytes[z..count]);
-    if !is_printed {
+    let printed = console::print_report(&bytes[z..count]);
+    if !printed.is_written {
         os::fail(b"boresums: cannot write standard output");
     }
 }

@@ -1,10 +1,10 @@
-// Runs jobs as boresums does and prints each result under its name: document 01's example, each refusal
-// that a job can meet, damaged files, and the largest job, of which lines, bytes and the sum of all bytes
-// are printed.
+// Prints jobs as boresums does, each under its name: document 01's example, each refusal that a job can
+// meet, damaged files, a text of more than one filling, and the largest job, of whose text the lines, the
+// bytes and the sum of all bytes are told.
 ghost use Prim.Native.Nat.{_≤_};
 use libc::STDOUT_FILENO;
-use report::State;
-use report::next;
+use report::Opened;
+use report::fill;
 use report::open;
 use spec::Cascade;
 use spec::Filter;
@@ -32,6 +32,10 @@ fn files() {
     show(
         b"-- columns 1,3 and rows 2\n",
         b"BOR\x01\x00\x01\x02\x02\x01\x03\x02\x00\x01\x00\x01\xFF",
+    );
+    show(
+        b"-- columns 2,2: higher than wide\n",
+        b"BOR\x01\x00\x00\x02\x02\x02\x01\x00\x01\x00\x04",
     );
     show(b"-- empty\n", b"");
     show(
@@ -61,7 +65,7 @@ fn files() {
     );
 }
 
-// The refusals 1 to 5 and 8, each where a later one applies too.
+// The refusals 1 to 5, each where a later one applies too, and 8.
 fn refusals() {
     show(b"-- 49 row widths, cut short\n", b"BOR\x01\x00\x31\x00");
     show(b"-- 49 column widths, cut short\n", b"BOR\x01\x00\x00\x31");
@@ -89,6 +93,10 @@ fn refusals() {
         b"-- rows 255,2 and columns 33: 8,704 cells\n",
         b"BOR\x01\x00\x02\x01\xFF\x02\x21\x01\x00\x01\x00\x09",
     );
+    show(
+        b"-- the same and a byte more\n",
+        b"BOR\x01\x00\x02\x01\xFF\x02\x21\x01\x00\x01\x00\x09\x09",
+    );
 }
 
 // A cascade of so many widths, all of them 2.
@@ -99,15 +107,39 @@ fn twos(count: u8) -> Cascade {
     }
 }
 
-// Pixel k of the largest job is 7 times k modulo 251.
+// Pixel k is 7 times k modulo 251.
 fn paint(pixels: &mut [u8]) {
     for k in 0..pixels.len() {
         pixels[k] = (k % 251 * 7 % 251) as u8;
     }
 }
 
+// Rows 2, columns 2 on a picture of 60 by 300: over 65,536 bytes of text.
+fn many_lines() {
+    let mut pixels = [0u8; 18000];
+    paint(&mut pixels);
+    let filter = Filter {
+        rows: twos(1),
+        columns: twos(1),
+    };
+    let mut file = [0u8; 18013];
+    job::write(filter, 60, 300, &pixels, &mut file);
+    show(b"-- rows 2, columns 2, 60 by 300\n", &file);
+}
+
+// How many lines and bytes a text has so far, and the sum of these.
+struct Digest {
+    lines: u64,
+    bytes: u64,
+    sum: u64,
+}
+
 fn wide(x: u8) -> u64 {
     x as u64
+}
+
+fn line_ends(x: u8) -> u64 {
+    if x == 10 { 1 } else { 0 }
 }
 
 fn least(a: usize, b: usize) -> usize
@@ -116,43 +148,34 @@ fn least(a: usize, b: usize) -> usize
     if a < b { a } else { b }
 }
 
-// The sum of the first bytes of a text, as many as `count` says, added to a number.
-fn added(text: &[u8], count: usize, sum: u64) -> u64 {
-    let mut total = sum;
+// A filling more: the first bytes of a text, as many as `count` says.
+fn added(so_far: Digest, text: &[u8], count: usize) -> Digest {
+    let mut lines = so_far.lines;
+    let mut sum = so_far.sum;
     for k in 0..least(count, text.len()) {
-        total = wrapping_add_u64(total, wide(text[k]));
+        lines = wrapping_add_u64(lines, line_ends(text[k]));
+        sum = wrapping_add_u64(sum, wide(text[k]));
     }
-    total
-}
-
-// How many bytes the lines so far have, their sum, and the state after them.
-struct Digest {
-    bytes: u64,
-    sum: u64,
-    state: State,
-}
-
-// One line more.
-fn count_row(so_far: Digest, pixels: &[u8], cells: &mut [u64], text: &mut [u8; 26860]) -> Digest {
-    let line = next(so_far.state, pixels, cells, text);
-    let state = line.state;
     Digest {
-        bytes: wrapping_add_u64(so_far.bytes, line.length as u64),
-        sum: added(text, line.length, so_far.sum),
-        state,
+        lines,
+        bytes: wrapping_add_u64(so_far.bytes, count as u64),
+        sum,
     }
 }
 
-// So many lines.
-fn count_rows(state: State, height: usize, pixels: &[u8], cells: &mut [u64]) -> Digest {
-    let mut text = [0u8; 26860];
+// All fillings of an opened job.
+fn digest_of(opened: Opened, job: &[u8], cells: &mut [u64], text: &mut [u8; 65536]) -> Digest {
+    let mut at = opened;
     let mut digest = Digest {
+        lines: 0,
         bytes: 0,
         sum: 0,
-        state,
     };
-    for j in 0..height {
-        digest = count_row(digest, pixels, cells, &mut text);
+    let calls: usize = 1280;
+    for k in 0..calls {
+        let filled = fill(at, job, cells, text);
+        digest = added(digest, text, filled.count);
+        at = filled.opened;
     }
     digest
 }
@@ -163,26 +186,21 @@ fn print(n: u64) {
     io::print_decimal(STDOUT_FILENO, n);
 }
 
-// Prints how many lines a job's text has after the first, how many bytes they have, and the sum of these.
-fn print_digest(job: &[u8], cells: &mut [u64; 8192]) {
+// Prints how many lines and bytes a job's text has, and the sum of these.
+fn print_digest(job: &[u8], cells: &mut [u64; 8192], text: &mut [u8; 65536]) {
     let opened = open(job, cells);
-    let state = opened.state;
-    let offset = opened.offset;
-    let end = job.len();
-    if offset <= end {
-        let digest = count_rows(state, opened.height, &job[offset..end], cells);
-        print(opened.height as u64);
-        print(digest.bytes);
-        print(digest.sum);
-        io::write_all(STDOUT_FILENO, b"\n");
-    }
+    let digest = digest_of(opened, job, cells, text);
+    print(digest.lines);
+    print(digest.bytes);
+    print(digest.sum);
+    io::write_all(STDOUT_FILENO, b"\n");
 }
 
 // The largest job: rows 2,2, columns 2,2,2 on a picture of 260 by 252, 65,536 bytes in all.
 fn largest() {
     io::write_all(
         STDOUT_FILENO,
-        b"-- 65,536 bytes: grown rows, bytes of their lines, sum of the bytes\n",
+        b"-- 65,536 bytes: lines, bytes, sum of the bytes\n",
     );
     let mut pixels = [0u8; 65520];
     paint(&mut pixels);
@@ -193,18 +211,28 @@ fn largest() {
     let mut file = [0u8; 65536];
     job::write(filter, 260, 252, &pixels, &mut file);
     let mut cells = [0u64; 8192];
-    print_digest(&file, &mut cells);
+    let mut text = [0u8; 65536];
+    print_digest(&file, &mut cells, &mut text);
 }
 
-// A byte more than the program takes.
+// A byte more than the program takes: rows 2,2,2, columns 2,2,2 on a picture of 260 by 252, a job that is
+// in order but for its length.
 fn too_large() {
-    let file = [0u8; 65537];
+    let mut pixels = [0u8; 65520];
+    paint(&mut pixels);
+    let filter = Filter {
+        rows: twos(3),
+        columns: twos(3),
+    };
+    let mut file = [0u8; 65537];
+    job::write(filter, 260, 252, &pixels, &mut file);
     show(b"-- 65,537 bytes\n", &file);
 }
 
 fn main() {
     files();
     refusals();
+    many_lines();
     largest();
     too_large();
 }

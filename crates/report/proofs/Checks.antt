@@ -1,12 +1,12 @@
 -- The program's checks, one after the other, and what an opened job is.
 -- Assumes nothing.
 use mathlib.Core.Path.{_≡_, refl, sym, ap, ap₂, subst, _∙_}
-use mathlib.Core.Bool.{cond}
+use mathlib.Core.Bool.{false, cond}
 use mathlib.Core.List.{List, [], _∷_, _++_}
 use Prim.Native.Nat.{ℕ, zero, suc, _+_, _≤_, _<_}
 use native.Mathlib.Omega.{arith}
 use lib.Dec.{ltb}
-use lib.ListN.{length}
+use lib.ListN.{length, drop, replicate, length-append, length-replicate, length-drop}
 use borrow.Author.Tests.{lt-ltb, le-ltb, ltb-false}
 use Rattle.spec.specs.declared.Filter.{Filter}
 use Rattle.spec.specs.Recipe.{recipe, heldFilter, gain}
@@ -24,9 +24,8 @@ use Rattle.stream.specs.Calls.{Began, began, zeros, started, start}
 use Rattle.job.specs.declared.reading.Job.{Job}
 use Rattle.job.specs.Answers.{noJob, jobTold, jobRead}
 use Rattle.job.proofs.Holding.{held-recipe}
-use Rattle.job.proofs.Answering.{job-length}
 use Rattle.report.specs.declared.opening.Opened.{Opened}
-use Rattle.report.specs.Opening.{opening, notOpened, opened, jobOpened}
+use Rattle.report.specs.Opening.{Opening, opening, notOpened, jobStarted, jobOpened}
 
 -- the number of a start is that of its checks, and on a refusal the cells are what they were
 start-number : (f : Filter) (w h : ℕ) (cells : List ℕ) → start f w h cells .number ≡ first (startChecks (recipe f) w h (length cells))
@@ -131,7 +130,7 @@ module _ (bytes : List ℕ) where
     pub not-opened : (n : ℕ) → first (programChecks bytes) ≡ n → (n ≡ 0 → ⊥) → opening (notOpened n) cells ≡ jobOpened bytes cells
     unfolding opening jobOpened
     not-opened n e h =
-        ap (λ k. opening (notOpened k) cells) (sym e) ∙ sym (lent-refused (programChecks bytes) (opened bytes cells) _ n e h)
+        ap (λ k. opening (notOpened k) cells) (sym e) ∙ sym (lent-refused (programChecks bytes) (jobStarted bytes cells) _ n e h)
 
     pub by-reading : length bytes ≤ 65536 → (j : Job) → j ≡ jobRead bytes → (j .refusal ≡ 0 → ⊥) → opening (notOpened (j .refusal)) cells ≡ jobOpened bytes cells
     by-reading small j e h =
@@ -204,9 +203,9 @@ module _ (bytes : List ℕ) where
             ap₂ opening q same ∙ not-opened (b .refusal) begun-number h
 
         pub all-opened : b .refusal ≡ 0 → (m : Measures) → m ≡ measured (recipe (j .filter))
-            → opening (record { refusal = 0; state = b .state; offset = j .offset; width = j .width + m .«row_order»; height = j .height + m .«column_order»; gain = m .gain }) held
+            → opening (record { refusal = 0; state = b .state; offset = j .offset; width = j .width + m .«row_order»; height = j .height + m .«column_order»; gain = m .gain; «is_begun» = false }) held
             ≡ jobOpened bytes cells
-        unfolding opening jobOpened opened began fullWidth fullHeight
+        unfolding opening jobOpened jobStarted began fullWidth fullHeight
         all-opened q m s =
             let k = measured-so m s in
             (λ i. record {
@@ -218,17 +217,32 @@ module _ (bytes : List ℕ) where
                     width = same-width i + k .rowReach i;
                     height = same-height i + k .columnReach i;
                     gain = k .weight i;
+                    «is_begun» = false;
                   };
               cells = ap (λ (x : Began). x .cells) begun-so i;
             })
-            ∙ sym (lent-accepted (programChecks bytes) (opened bytes cells) _ (begun-number ∙ q))
+            ∙ sym (lent-accepted (programChecks bytes) (jobStarted bytes cells) _ (begun-number ∙ q))
 
--- the pixels begin within the file
-pub offset-inside : (bytes cells : List ℕ) → jobOpened bytes cells .opened .offset ≤ length bytes
-unfolding jobOpened lent either opened jobOffset
-offset-inside bytes cells = go (first (programChecks bytes)) refl
+-- the cells are as many as before
+started-length : (f : Filter) (w h : ℕ) (cells : List ℕ) → first (startChecks (recipe f) w h (length cells)) ≡ 0 → length (start f w h cells .cells) ≡ length cells
+unfolding start started startChecks tooFewCells
+started-length f w h cells e =
+    let r = recipe f in
+    let needed = streamCells r w in
+    let checks = sizeChecks r w h in
+    let eight = none-both checks _ (size-numbered r w h) e .1 in
+    let enough : needed ≤ length cells = ltb-false (length cells) needed (first-none (tooFewCells (length cells) needed) 7 _ eight .0) in
+    ap (λ (b : Began). length (b .cells)) (lent-accepted (startChecks r w h (length cells)) (started f w h cells) _ e)
+    ∙ omega (arith, length-append (replicate {A = ℕ} needed 0) (drop needed cells), length-replicate {A = ℕ} needed 0, length-drop needed cells)
+
+pub opened-length : (bytes cells : List ℕ) → length cells ≡ 8192 → length (jobOpened bytes cells .cells) ≡ 8192
+unfolding jobOpened jobStarted
+opened-length bytes cells many = go (first (programChecks bytes)) refl
   where
-    go : (n : ℕ) → first (programChecks bytes) ≡ n → either n (opened bytes cells) (record { opened = notOpened n; cells = cells }) .opened .offset ≤ length bytes
+    go : (n : ℕ) → first (programChecks bytes) ≡ n → length (jobOpened bytes cells .cells) ≡ 8192
     go zero e =
-        omega (arith, is-fine bytes (program-job bytes e) .total, job-length bytes (jobWidth bytes) (jobHeight bytes))
-    go (suc n) e = omega arith
+        ap (λ (a : Opening). length (a .cells)) (lent-accepted (programChecks bytes) (jobStarted bytes cells) _ e)
+        ∙ started-length (heldFilter (jobRecipe bytes)) (jobWidth bytes) (jobHeight bytes) cells (starts bytes (program-small bytes e) (program-job bytes e) cells many ∙ e)
+        ∙ many
+    go (suc n) e =
+        ap (λ (a : Opening). length (a .cells)) (lent-refused (programChecks bytes) (jobStarted bytes cells) _ (suc n) e (λ z. omega arith)) ∙ many

@@ -1,4 +1,5 @@
 pub mod Checks
 pub mod Fronts
 pub mod Rows
+pub mod Ending
 pub mod Printing

@@ -1,3 +1,4 @@
 pub mod Opening
-pub mod Lining
+pub mod Filling
+pub mod Private
 pub mod Session

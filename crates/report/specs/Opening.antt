@@ -1,4 +1,5 @@
 -- What opening a job answers and leaves in the cells, and the first line, for every argument.
+use mathlib.Core.Bool.{false}
 use mathlib.Core.List.{List, [], _∷_, _++_}
 use Prim.Native.Nat.{ℕ}
 use lib.ListN.{length, drop}
@@ -20,11 +21,11 @@ opening o cells = record { opened = o; cells = cells }
 
 -- a refused job: its number, and all else zero
 abbrev pub notOpened : ℕ → Opened
-notOpened n = record { refusal = n; state = zeros; offset = 0; width = 0; height = 0; gain = 0 }
+notOpened n = record { refusal = n; state = zeros; offset = 0; width = 0; height = 0; gain = 0; «is_begun» = false }
 
--- accepted: the state and the cells of the start, the offset, the grown sides and the weight
-unfoldable pub opened : List ℕ → List ℕ → Opening
-opened bytes cells =
+-- accepted: the state and the cells of the start, the offset, the grown sides and the weight; the first line is not out yet
+unfoldable pub jobStarted : List ℕ → List ℕ → Opening
+jobStarted bytes cells =
     let r = jobRecipe bytes in
     let s = start (heldFilter r) (jobWidth bytes) (jobHeight bytes) cells in
     record {
@@ -36,6 +37,7 @@ opened bytes cells =
             width = fullWidth r (jobWidth bytes);
             height = fullHeight r (jobHeight bytes);
             gain = gain r;
+            «is_begun» = false;
           };
       cells = s .cells;
     }
@@ -44,7 +46,7 @@ opened bytes cells =
 unfoldable pub jobOpened : List ℕ → List ℕ → Opening
 jobOpened bytes cells =
     let cs = programChecks bytes in
-    lent cs (opened bytes cells) (record { opened = notOpened (first cs); cells = cells })
+    lent cs (jobStarted bytes cells) (record { opened = notOpened (first cs); cells = cells })
 
 -- the grown width, the grown height and the weight on one line, or the line of the refusal
 unfoldable pub firstLine : Opened → List ℕ

@@ -1,29 +1,41 @@
--- The claim about the program's text: the pieces, one after the other, are what document 01 has boresums print.
+-- The claim about the program's text: the fillings, one after the other, are what document 01 has boresums print.
 use mathlib.Core.Path.{_≡_}
 use mathlib.Core.List.{List, [], _++_}
-use Prim.Native.Nat.{ℕ, zero, suc, _≤_}
-use lib.ListN.{length, getD, take, drop}
+use Prim.Native.Nat.{ℕ, zero, suc, _<_}
+use lib.ListN.{length, take}
+use Rattle.spec.specs.Refusals.{either}
 use Rattle.spec.specs.Program.{printed}
-use Rattle.stream.specs.declared.calls.State.{State}
-use Rattle.report.specs.Opening.{jobOpened, firstLine, front}
-use Rattle.report.specs.Lining.{next}
+use Rattle.job.specs.RoundTrip.{FileBytes}
+use Rattle.report.specs.declared.opening.Opened.{Opened}
+use Rattle.report.specs.Opening.{jobOpened}
+use Rattle.report.specs.Filling.{fill}
 
--- the lines that so many calls of `next` leave, one after the other: each call gets the state, the cells and the text that the one before
--- left
-unfoldable pub lines : ℕ → State → List ℕ → List ℕ → List ℕ → List ℕ
-lines zero s pixels cells text = []
-lines (suc n) s pixels cells text =
-    let a = next s pixels cells text in
-    take (a .length) (a .text) ++ lines n (a .state) pixels (a .cells) (a .text)
+-- what so many calls of `fill` leave at the front of the text, one after the other: each call gets the job, the cells and the text as the
+-- one before left them
+unfoldable pub fillings : ℕ → Opened → List ℕ → List ℕ → List ℕ → List ℕ
+fillings zero o job cells text = []
+fillings (suc n) o job cells text =
+    let a = fill o job cells text in
+    take (a .count) (a .text) ++ fillings n (a .opened) job (a .cells) (a .text)
 
--- what a session leaves: the first line of the opened job, and a line for each grown row that it told
-unfoldable pub session : List ℕ → List ℕ → List ℕ → List ℕ → List ℕ
-session bytes cells head text =
-    let a = jobOpened bytes cells in
-    let t = firstLine (a .opened) in
-    take (length t) (front t head) ++ lines (a .opened .height) (a .opened .state) (drop (a .opened .offset) bytes) (a .cells) text
+-- so, but only up to the first call whose number is not 0, and that one too
+unfoldable pub untilRefused : ℕ → Opened → List ℕ → List ℕ → List ℕ → List ℕ
+untilRefused zero o job cells text = []
+untilRefused (suc n) o job cells text =
+    let a = fill o job cells text in
+    take (a .count) (a .text) ++ either (a .number) (untilRefused n (a .opened) job (a .cells) (a .text)) []
 
--- For every input of bytes, with 8,192 cells and two texts of any content, that is what the program is to print.
-abbrev pub Claim : Type 0
-Claim =
-    (bytes cells head text : List ℕ) → ((k : ℕ) → getD bytes k 0 ≤ 255) → length cells ≡ 8192 → session bytes cells head text ≡ printed bytes
+-- For every input of bytes, with 8,192 cells and a text of any content: what so many calls fill once the job is opened is what the program
+-- is to print, if they are more than the grown rows that opening told; and so is what they fill up to the first call with a number.
+-- It cannot hold by emptiness: no call is assumed to be accepted, for every input there are such numbers of calls, 1,280 among them (`few`),
+-- and what is to be printed has a line for every input, so that the first filling is never empty, whatever its number.
+pub record Session (bytes cells text : List ℕ) : Type 0 where
+  pub whole : (n : ℕ) → jobOpened bytes cells .opened .height < n
+      → fillings n (jobOpened bytes cells .opened) bytes (jobOpened bytes cells .cells) text ≡ printed bytes
+  pub ended : (n : ℕ) → jobOpened bytes cells .opened .height < n
+      → untilRefused n (jobOpened bytes cells .opened) bytes (jobOpened bytes cells .cells) text ≡ printed bytes
+  -- a grown picture has at most 1,279 rows
+  pub few : jobOpened bytes cells .opened .height < 1280
+
+abbrev pub TextClaim : Type 0
+TextClaim = (bytes cells text : List ℕ) → FileBytes bytes → length cells ≡ 8192 → Session bytes cells text

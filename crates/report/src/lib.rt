@@ -1,11 +1,10 @@
-// The text that the program boresums prints, piece by piece: a job is opened, its first line is written,
-// and then one line for each grown row.
-mod lining;
+// The text that the program boresums prints, piece by piece: a job is opened, and then a buffer is filled
+// with the next whole lines, call after call.
+mod filling;
 mod opening;
 
-pub use lining::Lined;
-pub use lining::next;
+pub use filling::Filled;
+pub use filling::fill;
 pub use opening::Opened;
-pub use opening::head;
 pub use opening::open;
 pub use stream::State;

@@ -13,8 +13,8 @@ use text::line;
 use text::refusal_line;
 
 // A job that the program has opened: 0 or the number of the refusal, the state of the one pass, the
-// offset at which the pixels begin, the grown sides and the weight. On a refusal all but the number is
-// zero.
+// offset at which the pixels begin, the grown sides and the weight, and whether the first line is out. On
+// a refusal all but the number is zero.
 pub struct Opened {
     pub refusal: u8,
     pub state: State,
@@ -22,6 +22,7 @@ pub struct Opened {
     pub width: usize,
     pub height: usize,
     pub gain: u64,
+    pub is_begun: bool,
 }
 
 // A job that is refused: its number, and all else zero.
@@ -35,6 +36,7 @@ fn not_opened(number: u8) -> Opened
         width: 0,
         height: 0,
         gain: 0,
+        is_begun: false,
     }
 }
 
@@ -66,12 +68,13 @@ pub fn open(bytes: &[u8], cells: &mut [u64; 8192]) -> Opened
         width: job.width + m.row_order,
         height: job.height + m.column_order,
         gain: m.gain,
+        is_begun: false,
     }
 }
 
 // The first line: the grown width, the grown height and the weight, or the refusal, such as
 // `refused 8`. Its length.
-pub fn head(opened: Opened, text: &mut [u8; 64]) -> usize
+pub(crate) fn head(opened: Opened, text: &mut [u8; 64]) -> usize
     ensures { λ r. let t = firstLine opened in ⌜ (r ≡ length t) × (now (text .exit) ≡ front t (now (text .entry))) ⌝ }
 {
     let number = opened.refusal;

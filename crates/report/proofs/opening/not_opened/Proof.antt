@@ -1,6 +1,7 @@
 -- `report::opening::not_opened` meets its contract: all fields but the number are zero.
 -- Assumes nothing.
 use mathlib.Core.Path.{ap, _∙_}
+use mathlib.Core.Bool.{false}
 use borrow.Author.Needs.{needs}
 use Rattle.spec.specs.declared.Filter.{Filter}
 use Rattle.stream.specs.Calls.{stateAt}
@@ -16,7 +17,7 @@ state-at-requires c κs = search needs
 returns : tie.Need-returns
 returns c =
     let state = c .state-at .ensures ∙ ap (λ (f : Filter). stateAt f 0 0 0) (c .before .no-filter .ensures) in
-    λ i. record { refusal = c .before .before .args .number; state = state i; offset = 0; width = 0; height = 0; gain = 0 }
+    λ i. record { refusal = c .before .before .args .number; state = state i; offset = 0; width = 0; height = 0; gain = 0; «is_begun» = false }
 
 pub not-opened-spec : {M : Type 1} → statement M
 not-opened-spec = tie.close (tie.spec no-filter-requires state-at-requires returns)

@@ -1,4 +1,4 @@
--- `report::lining::print` meets its contract, by that of `text::line` on just the room that the line needs.
+-- `report::filling::print` meets its contract, by that of `text::line` on just the room that the line needs.
 -- Assumes nothing.
 use mathlib.Core.Path.{_≡_, sym, ap, _∙_}
 use mathlib.Core.List.{_++_}
@@ -11,8 +11,8 @@ use Rattle.spec.specs.Program.{line}
 use Rattle.text.specs.Printed.{lineTold}
 use Rattle.text.proofs.Lines.{length-line}
 use Rattle.report.proofs.Fronts.{front-part, line-told, line-never}
-use Rattle.report.proofs.lining.print.Statement.{statement}
-use Rattle.report.proofs.lining.print.Tie as tie
+use Rattle.report.proofs.filling.print.Statement.{statement}
+use Rattle.report.proofs.filling.print.Tie as tie
 
 -- the part that is lent is just the line's room
 part-long : (c : tie.Start) → let room = 21 * length (c .args .row .now) + 1 in length (take (room - 0) (c .args .text .now)) ≡ room
