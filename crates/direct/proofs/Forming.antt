@@ -18,7 +18,7 @@ use Rattle.laws.proofs.Lists.{product-zero}
 use Rattle.laws.proofs.Kernels.{kernel-sum, length-kernel}
 use Rattle.laws.proofs.Exact.{rows-pos, columns-pos}
 use Rattle.laws.proofs.Refusals.{Accepted, AcceptedPicture, as-stated, not-stated, picture-sides, picture-pixels, picture-rest, first-then, first-none, none-both, recipe-numbered, picture-numbered, is-accepted-picture, same-length-so, lent-refused, lent-accepted}
-use Rattle.filter.specs.Filled.{Filled}
+use Rattle.filter.specs.Coefficients.{KernelFilled}
 use Rattle.direct.specs.Formed.{checks, Formed}
 use Rattle.direct.specs.Windows.{window, windows, mass, Ready}
 use Rattle.direct.proofs.Weighing.{window-exact, windows-full}
@@ -117,7 +117,7 @@ light-alone ns l =
     ) refl
 
 -- the coefficients of such a list are filled in
-filled-whole : (ns old new : List ℕ) (number : ℕ) → Light ns → length old ≡ order ns + 1 → Filled ns old number new → new ≡ kernel ns
+filled-whole : (ns old new : List ℕ) (number : ℕ) → Light ns → length old ≡ order ns + 1 → KernelFilled ns old number new → new ≡ kernel ns
 unfolding kernelChecks otherOutput otherPixels
 filled-whole ns old new number l s f =
     let none = first-then (recipeChecks (alone ns)) _ 7 (recipe-numbered (alone ns)) (light-alone ns l) in
@@ -155,7 +155,7 @@ module _ (r : Recipe) (k : Accepted r) where
 
   -- and the coefficients of both are filled in
   pub kernels-filled : (rows columns rs cs : List ℕ) (m n : ℕ) → length rows ≡ order (r .rows) + 1 → length columns ≡ order (r .columns) + 1
-      → Filled (r .rows) rows m rs → Filled (r .columns) columns n cs → (rs ≡ kernel (r .rows)) × (cs ≡ kernel (r .columns))
+      → KernelFilled (r .rows) rows m rs → KernelFilled (r .columns) columns n cs → (rs ≡ kernel (r .rows)) × (cs ≡ kernel (r .columns))
   kernels-filled rows columns rs cs m n s t f g =
       (filled-whole (r .rows) rows rs m rows-light s f, filled-whole (r .columns) columns cs n columns-light t g)
 

@@ -32,7 +32,7 @@ fn window_end(i: usize, m: usize) -> usize
 // The sum along a line at i.
 fn across(line: &[u8], kernel: &[u64], i: usize) -> u64
     requires { ⌜ (0 < length (now line)) × (i + 1 < length (now line) + length (now kernel)) × (mass (now kernel) ≤ 2 ^ 44) ⌝ }
-    ensures { λ r. ⌜ (r ≡ through (now (kernel .entry)) (at (now (line .entry))) i) × (r ≤ 255 * mass (now (kernel .entry))) ⌝ }
+    ensures { λ r. ⌜ (r ≡ through (now (kernel .entry)) (at (now (line .entry))) i) × (r ≤ 65535 * mass (now (kernel .entry))) ⌝ }
 {
     let end = window_end(i, kernel.len());
     let mut total: u64 = 0;

@@ -6,39 +6,39 @@ use Prim.Native.Nat.{ℕ}
 use native.Mathlib.Omega.{arith}
 use lib.ListN.{getD}
 use Rattle.spec.specs.Words.{sum, tab, part, total, product, somewhere, everywhere, keep, occurs}
-use Rattle.spec.specs.Recipe.{recipe, widths, box, convolve, kernel, boxOrder, order, weight, gain}
+use Rattle.spec.specs.Recipe.{recipe, widths, held, heldFilter, box, convolve, kernel, boxOrder, order, weight, gain}
 use Rattle.spec.specs.Picture.{fullWidth, fullHeight, fullRow, exact, pixelBack, pixel}
 use Rattle.spec.specs.Same.{struck, sameCounts, equivalent}
-use Rattle.spec.specs.Refusals.{accepted, check, first, either, answer, recipeChecks, compareChecks, tooLong, zeroWidth, tooFar, tooHeavy}
+use Rattle.spec.specs.Refusals.{alone, accepted, check, first, either, answer, recipeChecks, compareChecks, tooLong, zeroWidth, tooFar, tooHeavy}
 use Rattle.equivalence.specs.Yields.{AcceptedRecipe, Yields}
 use Rattle.equivalence.specs.Example.{twoSixSix, threeThreeEight, dot, twoSixSixRow, threeThreeEightRow, ToldApart}
 use Rattle.equivalence.proofs.Yielding.{yields-exactly}
 use Rattle.equivalence.proofs.Agreeing.{told-so, dot-accepted}
 
 first-accepted : AcceptedRecipe (recipe twoSixSix)
-unfolding first check recipeChecks tooLong zeroWidth tooFar tooHeavy recipe widths part tab somewhere boxOrder order weight gain total product
+unfolding first check recipeChecks tooLong zeroWidth tooFar tooHeavy recipe heldFilter held alone widths part tab somewhere boxOrder order weight gain total product
 first-accepted = refl
 
 second-accepted : AcceptedRecipe (recipe threeThreeEight)
-unfolding first check recipeChecks tooLong zeroWidth tooFar tooHeavy recipe widths part tab somewhere boxOrder order weight gain total product
+unfolding first check recipeChecks tooLong zeroWidth tooFar tooHeavy recipe heldFilter held alone widths part tab somewhere boxOrder order weight gain total product
 second-accepted = refl
 
 -- the grown rows, worked out
 first-row : fullRow (recipe twoSixSix) dot 0 ≡ twoSixSixRow
-unfolding fullRow fullWidth exact pixelBack pixel kernel box convolve recipe widths part tab sum boxOrder order total
+unfolding fullRow fullWidth exact pixelBack pixel kernel box convolve recipe heldFilter held alone widths part tab sum boxOrder order total
 first-row = refl
 
 second-row : fullRow (recipe threeThreeEight) dot 0 ≡ threeThreeEightRow
-unfolding fullRow fullWidth exact pixelBack pixel kernel box convolve recipe widths part tab sum boxOrder order total
+unfolding fullRow fullWidth exact pixelBack pixel kernel box convolve recipe heldFilter held alone widths part tab sum boxOrder order total
 second-row = refl
 
 -- the call says no
 not-equivalent : answer (compareChecks (recipe twoSixSix) (recipe threeThreeEight)) (equivalent (recipe twoSixSix) (recipe threeThreeEight)) ≡ accepted false
-unfolding answer either first check compareChecks recipeChecks tooLong zeroWidth tooFar tooHeavy recipe widths part tab somewhere boxOrder order weight gain total product equivalent sameCounts everywhere struck keep occurs
+unfolding answer either first check compareChecks recipeChecks tooLong zeroWidth tooFar tooHeavy recipe heldFilter held alone widths part tab somewhere boxOrder order weight gain total product equivalent sameCounts everywhere struck keep occurs
 not-equivalent = refl
 
 pub told-apart : ToldApart
-unfolding recipe widths part tab boxOrder order weight gain total product fullHeight
+unfolding recipe heldFilter held alone widths part tab boxOrder order weight gain total product fullHeight
 told-apart =
     let shown = dot-accepted (recipe twoSixSix) first-accepted in
     let other-shown = dot-accepted (recipe threeThreeEight) second-accepted in

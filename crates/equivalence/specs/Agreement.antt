@@ -35,7 +35,7 @@ abbrev pub SameClaim : Type 0
 SameClaim =
     (a b : Filter) → AcceptedRecipe (recipe a) → AcceptedRecipe (recipe b) → (told : Comparison) → Compared a b told → Equivalents a b told
 
--- A picture that is accepted with one accepted recipe is accepted with every other: no pair of them is without pictures, or has fewer than
--- another.
+-- A picture that is accepted with one accepted recipe is accepted with every other: no pair has more or fewer pictures than another, and
+-- `ToldApart` shows one that each has.
 abbrev pub AcceptedAlike : Type 0
 AcceptedAlike = (a b : Recipe) → AcceptedRecipe b → (p : Picture) → AcceptedWith a p → AcceptedWith b p

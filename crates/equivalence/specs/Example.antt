@@ -1,23 +1,20 @@
 -- Demand 3's example: 2, 6, 6 retyped as 3, 3, 8. Reach, weight and count all agree, and yet the recipes are told apart.
 use mathlib.Core.Path.{_≡_}
-use mathlib.Core.List.{List, [], _∷_, _++_}
-use Prim.Native.Nat.{ℕ, _-_}
-use lib.ListN.{length, replicate}
-use Rattle.spec.specs.declared.Cascade.{Cascade}
+use mathlib.Core.List.{List, [], _∷_}
+use Prim.Native.Nat.{ℕ}
+use lib.ListN.{length}
 use Rattle.spec.specs.declared.Filter.{Filter}
-use Rattle.spec.specs.Recipe.{recipe, order, gain}
+use Rattle.spec.specs.Recipe.{recipe, heldFilter, order, gain}
 use Rattle.spec.specs.Picture.{Picture, picture}
+use Rattle.spec.specs.Refusals.{alone}
 use Rattle.equivalence.specs.declared.Comparison.{Comparison}
 use Rattle.equivalence.specs.declared.Comparison.the-variants as comparison
 use Rattle.equivalence.specs.Compared.{Compared}
 use Rattle.equivalence.specs.Yields.{AcceptedWith, Method, Yields}
 
--- a cascade of these widths, and a recipe of them along the rows with none down the columns
-abbrev holding : List ℕ → Cascade
-holding ns = record { count = length ns; widths = ns ++ replicate (48 - length ns) 0 }
-
+-- these widths along the rows, and none down the columns
 abbrev alongRows : List ℕ → Filter
-alongRows ns = record { rows = holding ns; columns = holding [] }
+alongRows ns = heldFilter (alone ns)
 
 abbrev pub twoSixSix : Filter
 twoSixSix = alongRows (2 ∷ 6 ∷ 6 ∷ [])

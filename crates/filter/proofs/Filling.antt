@@ -15,12 +15,12 @@ use Rattle.laws.proofs.Kernels.{at, holds-tab, length-kernel}
 use Rattle.laws.proofs.Refusals.{lent-refused, lent-accepted}
 use Rattle.filter.specs.declared.checks.Measures.{Measures}
 use Rattle.filter.specs.Measured.{measured}
-use Rattle.filter.specs.Filled.{Filled}
+use Rattle.filter.specs.Coefficients.{KernelFilled}
 use Rattle.filter.proofs.Refusal.{Known, known, measured-refused, measured-then}
 
 module _ (ns old : List ℕ) (m : Measures) (s : m ≡ measured (alone ns)) where
   -- a refusal by 1 to 4
-  pub filled-refused : (m .refusal ≡ 0 → ⊥) → Filled ns old (m .refusal) old
+  pub filled-refused : (m .refusal ≡ 0 → ⊥) → KernelFilled ns old (m .refusal) old
   unfolding kernelChecks
   filled-refused h =
       let e = measured-refused (alone ns) m s _ h in
@@ -46,14 +46,14 @@ module _ (ns old : List ℕ) (m : Measures) (s : m ≡ measured (alone ns)) wher
     unfolding alone
     reach = list-known .rowReach
 
-    pub filled-other : (length old ≡ m .«row_order» + 1 → ⊥) → Filled ns old 7 old
+    pub filled-other : (length old ≡ m .«row_order» + 1 → ⊥) → KernelFilled ns old 7 old
     unfolding otherOutput
     filled-other h =
         let e : first (kernelChecks ns (length old)) ≡ 7 =
         by-length ∙ ap (λ b. cond (not b) 7 0) (ne-eqb (length old) (order ns + 1) (λ p. h (p ∙ ap (λ n. n + 1) (sym reach)))) in
         record { answer = sym e; slice = sym (lent-refused _ _ old 7 e (λ p. omega arith)) }
 
-    pub filled-all : (new : List ℕ) → length old ≡ m .«row_order» + 1 → new ≡ tab (length old) (at (kernel ns)) → Filled ns old 0 new
+    pub filled-all : (new : List ℕ) → length old ≡ m .«row_order» + 1 → new ≡ tab (length old) (at (kernel ns)) → KernelFilled ns old 0 new
     unfolding otherOutput
     filled-all new l p =
         let size : length old ≡ order ns + 1 = l ∙ ap (λ n. n + 1) reach in

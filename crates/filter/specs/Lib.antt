@@ -1,3 +1,3 @@
 pub mod Measured
 pub mod Answers
-pub mod Filled
+pub mod Coefficients

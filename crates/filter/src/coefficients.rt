@@ -2,13 +2,13 @@
 // n places earlier taken away.
 ghost use mathlib.Core.Path.{_≡_};
 ghost use mathlib.Core.List.{[]};
-ghost use Prim.Native.Nat.{ℕ, _+_, _-_, _≤_, _<_, _^_};
+ghost use Prim.Native.Nat.{ℕ, _-_, _≤_, _<_, _^_};
 ghost use lib.ListN.{length};
 ghost use Rattle.spec.specs.Words.{sum, tab};
 ghost use Rattle.spec.specs.Recipe.{widths, weight, kernel as kernelOf};
 ghost use Rattle.laws.proofs.Kernels.{at};
 ghost use Rattle.laws.proofs.Sequences.{running, behind};
-ghost use Rattle.filter.specs.Filled.{Filled};
+ghost use Rattle.filter.specs.Coefficients.{KernelFilled};
 use crate::checks::measure;
 use crate::lists::width_at;
 use crate::zeros::no_filter;
@@ -72,7 +72,7 @@ fn convolve(list: Cascade, out: &mut [u64])
 // The coefficients of a cascade into a slice of exactly its reach and one: refused by 1 to 4, for the
 // cascade as a recipe of its own, and by 7.
 pub fn kernel(list: Cascade, out: &mut [u64]) -> u8
-    ensures { λ r. ⌜ Filled (widths list) (now (out .entry)) r (now (out .exit)) ⌝ }
+    ensures { λ r. ⌜ KernelFilled (widths list) (now (out .entry)) r (now (out .exit)) ⌝ }
 {
     let columns = no_filter().columns;
     let m = measure(Filter {

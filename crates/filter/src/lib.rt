@@ -1,5 +1,5 @@
-// Document 01's recipe: its checks 1 to 4, its weight and reaches, its coefficients, the grown sides,
-// and the scale card.
+// Document 01's recipe: its checks 1 to 4, its weight and reaches, its coefficients, the grown sides, the
+// scale card, and the widths of a list one by one.
 mod card;
 mod checks;
 mod coefficients;

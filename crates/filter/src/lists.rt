@@ -3,9 +3,8 @@ ghost use mathlib.Core.Path.{_≡_};
 ghost use lib.ListN.{getD};
 ghost use Rattle.spec.specs.Recipe.{widths};
 
-// The width at a place, from 0 on, of the cascade with this count and this array; 0 past the count, and
-// past the array. The array is lent: a copy for each width would cost more than what is done with the
-// width.
+// The width at a place, from 0 on, of the cascade with this count and this array: 0 past the count, and
+// past the array. The array is lent, since a cascade by value would be copied for each width.
 pub fn width_at(count: u8, array: &[u8], i: usize) -> u8
     ensures { λ r. ⌜ r ≡ getD (widths (record { count = count; widths = now (array .entry) })) i 0 ⌝ }
 {

@@ -9,7 +9,7 @@ ghost use Rattle.spec.specs.Stream.{streamCells};
 ghost use Rattle.spec.specs.Gray.{variance};
 ghost use Rattle.spec.specs.Same.{equivalent};
 ghost use Rattle.spec.specs.Refusals.{first, lent, recipeChecks, sizeChecks, cellChecks, compareChecks};
-ghost use Rattle.filter.specs.Filled.{Filled};
+ghost use Rattle.filter.specs.Coefficients.{KernelFilled};
 ghost use Rattle.blocks.specs.Given.{listAt, given};
 use blocks::cascade_of;
 use blocks::filter_of;
@@ -29,7 +29,7 @@ pub extern "C" fn bore_check(block: &[u8; 98]) -> u8
 // The coefficients of a list: 1 to 4, 7.
 #[no_mangle]
 pub extern "C" fn bore_kernel(list: &[u8; 49], out: &mut [u64]) -> u8
-    ensures { λ r. ⌜ Filled (widths (listAt 0 (now (list .entry)))) (now (out .entry)) r (now (out .exit)) ⌝ }
+    ensures { λ r. ⌜ KernelFilled (widths (listAt 0 (now (list .entry)))) (now (out .entry)) r (now (out .exit)) ⌝ }
 {
     filter::kernel(cascade_of(list), out)
 }

@@ -12,6 +12,9 @@ use filter::measure;
 use spec::Filter;
 use std::num::wrapping_add_u64;
 
+// Greys are bytes.
+const LARGEST_GRAY: u64 = 255;
+
 // A weight to divide by: its half, downwards, and whether it has a single bit set; a shift then divides
 // by it.
 pub struct Divisor {
@@ -33,7 +36,7 @@ pub fn divisor_of(weight: u64) -> Divisor
 }
 
 // A sum over the weight, to the nearest whole number, a half upwards, where the sum and the half fit 64
-// bits; over a weight of 0 it is 0.
+// bits, by a divisor from `divisor_of`; over a weight of 0 it is 0.
 pub fn rounded(sum: u64, by: Divisor) -> u64
     ensures { λ r. ⌜ r ≡ quotient by sum ⌝ }
 {
@@ -82,7 +85,7 @@ pub fn round(filter: Filter, sums: &[u64], out: &mut [u8]) -> u8
     if out.len() != sums.len() {
         return 7;
     }
-    if over(255 * m.gain, sums) {
+    if over(LARGEST_GRAY * m.gain, sums) {
         return 11;
     }
     round_row(divisor_of(m.gain), sums, out);

@@ -22,6 +22,6 @@ unfoldable pub jobRead : List ℕ → Job
 jobRead bytes = lent (jobChecks bytes) (jobTold bytes) (noJob (first (jobChecks bytes)))
 
 -- the length of a job
-abbrev pub sizeTold : FileSize → Answer ℕ
-sizeTold (size.Bytes n) = accepted n
-sizeTold (size.Refused n) = refused n
+abbrev pub lengthTold : FileSize → Answer ℕ
+lengthTold (size.Bytes n) = accepted n
+lengthTold (size.Refused n) = refused n

@@ -1,12 +1,12 @@
 // Writing a job, and the length that it will have.
 ghost use mathlib.Core.Path.{_≡_};
-ghost use Prim.Native.Nat.{_+_, _*_, _≤_};
+ghost use Prim.Native.Nat.{_+_, _≤_};
 ghost use lib.ListN.{length};
 ghost use Rattle.spec.specs.Recipe.{recipe, widths};
 ghost use Rattle.spec.specs.Picture.{picture};
 ghost use Rattle.spec.specs.Job.{jobBytes, jobLength};
 ghost use Rattle.spec.specs.Refusals.{first, answer, sizeChecks, pictureChecks};
-ghost use Rattle.job.specs.Answers.{sizeTold};
+ghost use Rattle.job.specs.Answers.{lengthTold};
 ghost use Rattle.job.specs.Writing.{JobWritten};
 ghost use Rattle.job.specs.Private.{Appended};
 use bytes::copy;
@@ -29,7 +29,7 @@ fn wide(x: u8) -> usize
 
 // The length that the job of a recipe and of a picture with these sides has: refused by 1 to 5.
 pub fn size(filter: Filter, width: usize, height: usize) -> FileSize
-    ensures { λ r. ⌜ sizeTold r ≡ answer (sizeChecks (recipe filter) width height) (jobLength (recipe filter) width height) ⌝ }
+    ensures { λ r. ⌜ lengthTold r ≡ answer (sizeChecks (recipe filter) width height) (jobLength (recipe filter) width height) ⌝ }
 {
     let answer = full_size(filter, width, height);
     match answer {

@@ -18,7 +18,7 @@ use Rattle.laws.proofs.Sequences.{behind, behind-within, behind-before}
 use Rattle.laws.proofs.Kernels.{at, Holds}
 use Rattle.laws.proofs.Cascades.{spread, cascaded, cascaded-agree, cascaded-conv, conv-short, kernel-short}
 use Rattle.laws.proofs.Exact.{pixel-right, line, rows-pos, exact-cascaded, exact-small, length-full, getD-full}
-use Rattle.passes.specs.Steps.{flat, carried}
+use Rattle.passes.specs.Steps.{flat, filtered}
 
 -- column i of row j, in rows of W places
 module _ (W : ℕ) (i : ℕ) (h : i < W) where
@@ -92,9 +92,9 @@ module _ (r : Recipe) (p : Picture) (W : ℕ) (room : p .width + order (r .rows)
       ∙ sym (cascaded-conv (r .rows) (line p j) i ∙ conv-short R (line p j) m i short)
 
   -- both cascades
-  pub carried-exact : 0 < gain r → (i j : ℕ) → i < W → carried r W (flat p W) (j * W + i) ≡ exact r p i j
-  unfolding carried
-  carried-exact g i j h =
+  pub filtered-exact : 0 < gain r → (i j : ℕ) → i < W → filtered r W (flat p W) (j * W + i) ≡ exact r p i j
+  unfolding filtered
+  filtered-exact g i j h =
       cascaded-down W i h (r .columns) (cascaded 1 (r .rows) (flat p W)) j
       ∙ cascaded-agree 1 (r .columns) (λ v. cascaded 1 (r .rows) (flat p W) (v * W + i)) (λ v. cascaded 1 (r .rows) (line p v) i) j
       (λ v l. cascaded-along g i v h)
@@ -102,9 +102,9 @@ module _ (r : Recipe) (p : Picture) (W : ℕ) (room : p .width + order (r .rows)
 
   -- in rows of the grown width: a list of the grown size that holds it is the list of all exact sums
   module _ (g : 0 < gain r) (w : 0 < p .width) where
-    pub carried-full : W ≡ fullWidth r (p .width) → (l : List ℕ) → length l ≡ W * fullHeight r (p .height) → Holds (carried r W (flat p W)) l → l ≡ full r p
+    pub filtered-full : W ≡ fullWidth r (p .width) → (l : List ℕ) → length l ≡ W * fullHeight r (p .height) → Holds (filtered r W (flat p W)) l → l ≡ full r p
     unfolding at
-    carried-full f l e h =
+    filtered-full f l e h =
         let H = fullHeight r (p .height) in
         let pos : 0 < W = omega arith in
         ext-getD 0 l (full r p) (e ∙ mul-comm W H ∙ ap (λ x. H * x) f ∙ sym (length-full r p))
@@ -112,14 +112,14 @@ module _ (r : Recipe) (p : Picture) (W : ℕ) (room : p .width + order (r .rows)
         let q : k / W * W + k % W ≡ k = div-add-mod' k W in
         let u : k < H * W = omega (arith, mul-comm W H) in
         h k m
-        ∙ ap (carried r W (flat p W)) (sym q)
-        ∙ carried-exact g (k % W) (k / W) (mod-lt k pos)
+        ∙ ap (filtered r W (flat p W)) (sym q)
+        ∙ filtered-exact g (k % W) (k / W) (mod-lt k pos)
         ∙ sym (getD-full r p (k / W) (k % W) (div-lt-iff-lt-mul pos .1 u) (le-trans (mod-lt k pos) (le-of-eq f)))
         ∙ ap (λ n. getD (full r p) n 0) (ap (λ x. k / W * x + k % W) (sym f) ∙ q))
 
-    pub carried-small : (most : ℕ) → ((k : ℕ) → getD (p .pixels) k 0 ≤ most) → (k : ℕ) → carried r W (flat p W) k ≤ most * gain r
-    carried-small most small k =
+    pub filtered-small : (most : ℕ) → ((k : ℕ) → getD (p .pixels) k 0 ≤ most) → (k : ℕ) → filtered r W (flat p W) k ≤ most * gain r
+    filtered-small most small k =
         let pos : 0 < W = omega arith in
         let q : k / W * W + k % W ≡ k = div-add-mod' k W in
-        le-trans (le-of-eq (ap (carried r W (flat p W)) (sym q) ∙ carried-exact g (k % W) (k / W) (mod-lt k pos)))
+        le-trans (le-of-eq (ap (filtered r W (flat p W)) (sym q) ∙ filtered-exact g (k % W) (k / W) (mod-lt k pos)))
         (exact-small r p most small (k % W) (k / W))

@@ -15,8 +15,8 @@ unfoldable pub flat : Picture → ℕ → ℕ → ℕ
 flat p W k = pixel p (k % W) (k / W)
 
 -- a recipe's widths over a sequence in rows of W places: the row widths, and then the column widths
-unfoldable pub carried : Recipe → ℕ → (ℕ → ℕ) → ℕ → ℕ
-carried r W f = cascaded W (r .columns) (cascaded 1 (r .rows) f)
+unfoldable pub filtered : Recipe → ℕ → (ℕ → ℕ) → ℕ → ℕ
+filtered r W f = cascaded W (r .columns) (cascaded 1 (r .rows) f)
 
 -- a list that holds a sequence below a place
 abbrev pub Below : ℕ → (ℕ → ℕ) → List ℕ → Type 0

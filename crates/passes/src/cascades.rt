@@ -7,7 +7,7 @@ ghost use Rattle.spec.specs.Recipe.{widths, weight, recipe};
 ghost use Rattle.laws.proofs.Kernels.{at, Holds};
 ghost use Rattle.laws.proofs.Cascades.{spread, cascaded};
 ghost use Rattle.laws.proofs.Refusals.{Accepted};
-ghost use Rattle.passes.specs.Steps.{carried, Below, Small, Ready, present, turned, turnedBy};
+ghost use Rattle.passes.specs.Steps.{filtered, Below, Small, Ready, present, turned, turnedBy};
 use crate::columns::column_pass;
 use crate::rows::row_pass;
 use filter::width_at;
@@ -66,8 +66,8 @@ fn turns(list: Cascade, in_out: bool) -> bool
 {
     let mut held = in_out;
     for i in 0..list.count as usize {
-        let n = width_at(list.count, &list.widths, i);
-        held = other(n, held);
+        let width = width_at(list.count, &list.widths, i);
+        held = other(width, held);
     }
     held
 }
@@ -109,9 +109,9 @@ pub(crate) fn carry(
     work: &mut [u64],
 ) -> bool
     requires { ⌜ Accepted (recipe filter) × (length (now work) ≡ length (now out)) × (0 < «full_width») × (255 * «full_width» ≤ 2 ^ 32)
-        × Small (length (now out)) (carried (recipe filter) «full_width» (at (present «in_out» (now out) (now work)))) ⌝ }
+        × Small (length (now out)) (filtered (recipe filter) «full_width» (at (present «in_out» (now out) (now work)))) ⌝ }
     ensures { λ r. ⌜ (r ≡ turnedBy (recipe filter .columns) (turnedBy (recipe filter .rows) «in_out»))
-        × Below (length (now (out .entry))) (carried (recipe filter) «full_width» (at (present «in_out» (now (out .entry)) (now (work .entry))))) (present r (now (out .exit)) (now (work .exit))) ⌝ }
+        × Below (length (now (out .entry))) (filtered (recipe filter) «full_width» (at (present «in_out» (now (out .entry)) (now (work .entry))))) (present r (now (out .exit)) (now (work .exit))) ⌝ }
 {
     let held = cascade(filter.rows, 1, in_out, out, work);
     cascade(filter.columns, full_width, held, out, work)

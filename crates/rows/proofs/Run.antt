@@ -23,7 +23,7 @@ use Rattle.stream.specs.declared.calls.State.{State}
 use Rattle.stream.specs.Stages.{entering}
 use Rattle.stream.specs.Calls.{Called, stateAt, stateOf, next, steps, answers, push, drain, Began, start, started}
 use Rattle.rows.specs.Runs.{Call, aRow, aDrain, answerOf, Yielded, run, Carried, carried, rowOf, rows, outputs, isRow, kinds, pictureRow, whole}
-use Rattle.rows.specs.OnePass.{acceptedCalls, left, FirstRows, OnePass, Claim as TheClaim}
+use Rattle.rows.specs.OnePass.{acceptedCalls, left, FirstRows, OnePass, OnePassClaim}
 use Rattle.stream.proofs.States.{bad-late, row-ready, drain-ready}
 use Rattle.rows.proofs.Yield.{Honest, row-yielded, cells-length, cells-honest, entering-row, entering-black, start-honest}
 
@@ -537,7 +537,7 @@ module _ (f : Filter) (p : Picture) (cells : List ℕ) (begins : first (startChe
       most calls = subst (λ ys. length ys ≤ fullHeight (recipe f) (p .height)) (sym (runs calls)) (turn-so calls .1)
 
 -- document 01's claim about the whole list of calls
-pub one-pass : TheClaim
+pub one-pass : OnePassClaim
 unfolding start
 one-pass f p cells z = holds f p cells (go (first (startChecks (recipe f) (p .width) (p .height) (length cells))) refl)
   where

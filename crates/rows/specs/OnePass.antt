@@ -53,5 +53,5 @@ pub record OnePass (f : Filter) (p : Picture) (cells : List ℕ) : Type 0 where
       → outputs (acceptedCalls f p cells (whole p (order (recipe f .columns)) outs)) ≡ tab (fullHeight (recipe f) (p .height)) (fullRow (recipe f) p)
 
 -- The claim: so it is after every accepted start, with any lent cells.
-abbrev pub Claim : Type 0
-Claim = (f : Filter) (p : Picture) (cells : List ℕ) → start f (p .width) (p .height) cells .number ≡ 0 → OnePass f p cells
+abbrev pub OnePassClaim : Type 0
+OnePassClaim = (f : Filter) (p : Picture) (cells : List ℕ) → start f (p .width) (p .height) cells .number ≡ 0 → OnePass f p cells

@@ -11,7 +11,7 @@ use Rattle.spec.specs.Words.{sum, tab, part, total, product, somewhere, 
 use Rattle.spec.specs.Same.{struck, sameCounts, equivalent}
 use Rattle.spec.specs.Recipe.{Recipe, widths, recipe, held, heldFilter, boxOrder, order, weight, gain}
 use Rattle.spec.specs.Picture.{Picture, fullWidth, fullHeight}
-use Rattle.spec.specs.Stream.{State, boxCells, cascadeCells, streamCells, boxCost, cascadeCost, rowCost}
+use Rattle.spec.specs.Stream.{State, stateWith, boxCells, cascadeCells, streamCells, boxCost, cascadeCost, rowCost}
 use Rattle.spec.specs.Job.{mark, version, read16, jobLength, jobRecipe, jobWidth, jobHeight}
 use Rattle.spec.specs.Cases.{recipeOf, twos, exampleJob}
 use Rattle.spec.specs.Refusals
@@ -64,7 +64,7 @@ module _ (r q : Recipe) (p : Picture) (s : State) (xs : List ℕ) (k m n : ℕ) 
 
 -- a state of a recipe on a picture of 2 by 3
 abbrev stateOf : List ℕ → List ℕ → ℕ → State
-stateOf ns ms k = record { recipe = recipeOf ns ms; width = 2; height = 3; emitted = k }
+stateOf ns ms k = stateWith (recipeOf ns ms) 2 3 k
 
 -- each condition, first where it just does not hold, then where it just does
 pub limits :

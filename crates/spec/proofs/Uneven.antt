@@ -11,7 +11,7 @@ use lib.ListN.{replicate, take}
 use Rattle.spec.specs.Words.{sum, tab, part, total, product, somewhere}
 use Rattle.spec.specs.Recipe.{Recipe, box, convolve, kernel, boxOrder, order, weight, gain}
 use Rattle.spec.specs.Picture.{Picture, picture, pixel, pixelBack, fullWidth, fullHeight, fullSides, exact, fullRow, full}
-use Rattle.spec.specs.Stream.{State, boxCells, cascadeCells, streamCells}
+use Rattle.spec.specs.Stream.{State, stateWith, boxCells, cascadeCells, streamCells}
 use Rattle.spec.specs.Gray
 use Rattle.spec.specs.Gray.{asGray, asSum, asQuotient, grayReading, sumReading, quotientReading}
 use Rattle.spec.specs.Cases.{recipeOf, twos}
@@ -119,17 +119,17 @@ ten = refl
 -- ---- the answer of each call: 0 at the lengths that are asked for, and the number where one of them is another
 
 abbrev state : ℕ → State
-state k = record { recipe = uneven; width = 3; height = 2; emitted = k }
+state k = stateWith uneven 3 2 k
 
-abbrev stateWith : Recipe → ℕ → ℕ → State
-stateWith r w h = record { recipe = r; width = w; height = h; emitted = 0 }
+abbrev stateOf : Recipe → ℕ → ℕ → State
+stateOf r w h = stateWith r w h 0
 
 -- a job with columns 64 on a row of black pixels, with these rows: it needs 8,192 cells with no rows
 abbrev wide : List ℕ → ℕ → List ℕ
 wide ns w = Job.jobBytes (recipeOf ns (64 ∷ [])) (picture w 1 (replicate w 0))
 
 pub answers :
-    -- a picture with a pixel less, and one with the sides exchanged
+    -- a picture with a pixel less, and sides that are refused
     Refusals.first (Refusals.pictureChecks uneven wall)
     ∷ Refusals.first (Refusals.pictureChecks uneven (picture 3 2 (1 ∷ 2 ∷ 3 ∷ 4 ∷ 5 ∷ [])))
     ∷ Refusals.first (Refusals.pictureChecks uneven (picture 1025 0 []))
@@ -150,12 +150,12 @@ pub answers :
     ∷ Refusals.first (Refusals.drainChecks (state 1) 6 10)
     ∷ Refusals.first (Refusals.drainChecks (state 3) 6 10)
     -- a state with a recipe or a side that would be refused
-    ∷ Refusals.first (Refusals.rowChecks (stateWith (recipeOf (twos 49) []) 3 2) 3 3 99)
-    ∷ Refusals.first (Refusals.rowChecks (stateWith (recipeOf [] (0 ∷ [])) 3 2) 3 3 99)
-    ∷ Refusals.first (Refusals.rowChecks (stateWith (recipeOf [] (255 ∷ 3 ∷ [])) 3 2) 3 3 9999)
-    ∷ Refusals.first (Refusals.rowChecks (stateWith (recipeOf (twos 45) []) 3 2) 3 48 99)
-    ∷ Refusals.first (Refusals.rowChecks (stateWith uneven 1025 2) 1025 1028 9999)
-    ∷ Refusals.first (Refusals.rowChecks (stateWith uneven 3 1025) 3 6 10)
+    ∷ Refusals.first (Refusals.rowChecks (stateOf (recipeOf (twos 49) []) 3 2) 3 3 99)
+    ∷ Refusals.first (Refusals.rowChecks (stateOf (recipeOf [] (0 ∷ [])) 3 2) 3 3 99)
+    ∷ Refusals.first (Refusals.rowChecks (stateOf (recipeOf [] (255 ∷ 3 ∷ [])) 3 2) 3 3 9999)
+    ∷ Refusals.first (Refusals.rowChecks (stateOf (recipeOf (twos 45) []) 3 2) 3 48 99)
+    ∷ Refusals.first (Refusals.rowChecks (stateOf uneven 1025 2) 1025 1028 9999)
+    ∷ Refusals.first (Refusals.rowChecks (stateOf uneven 3 1025) 3 6 10)
     -- pass by pass, direct
     ∷ Refusals.first (Refusals.passChecks uneven wall 18 18)
     ∷ Refusals.first (Refusals.passChecks uneven wall 17 18)
@@ -198,6 +198,8 @@ pub answers :
     ∷ Refusals.first (Refusals.jobChecks (job ++ (0 ∷ [])))
     ∷ Refusals.first (Refusals.programChecks (wide [] 128))
     ∷ Refusals.first (Refusals.programChecks (wide (2 ∷ []) 127))
+    -- too many cells, and a byte more: the length of the job is asked first
+    ∷ Refusals.first (Refusals.programChecks (wide (2 ∷ []) 127 ++ (0 ∷ [])))
     ∷ []
     ≡ 0 ∷ 6 ∷ 5 ∷ 5 ∷ 5
     ∷ 0 ∷ 8
@@ -213,7 +215,7 @@ pub answers :
     ∷ 0 ∷ 2
     ∷ 0 ∷ 7
     ∷ 0 ∷ 14 ∷ 1 ∷ 14 ∷ 2 ∷ 5 ∷ 14
-    ∷ 0 ∷ 8
+    ∷ 0 ∷ 8 ∷ 14
     ∷ []
 unfolding sum tab part total product somewhere boxOrder order weight gain fullWidth fullHeight boxCells cascadeCells streamCells Job.low16 Job.mark Job.version Job.read16 Job.jobBytes Job.jobLength Job.jobRecipe Job.jobWidth Job.jobHeight Refusals.tooLong Refusals.zeroWidth Refusals.tooFar Refusals.tooHeavy Refusals.badSide Refusals.badSides Refusals.otherPixels Refusals.otherOutput Refusals.tooFewCells Refusals.badState Refusals.rowNotDue Refusals.drainNotDue Refusals.tooBright Refusals.oddApart Refusals.parityDiffers Refusals.productTooHeavy Refusals.badHead Refusals.cutShort Refusals.otherTotal Refusals.overProgram Refusals.outside Refusals.check Refusals.first Refusals.recipeChecks Refusals.sizeChecks Refusals.pictureChecks Refusals.startChecks Refusals.rowChecks Refusals.drainChecks Refusals.fullSize Refusals.passChecks Refusals.directChecks Refusals.roundChecks Refusals.sameSizeChecks Refusals.differenceChecks Refusals.readingChecks Refusals.compareChecks Refusals.jobChecks Refusals.writeChecks Refusals.programChecks
 answers = refl

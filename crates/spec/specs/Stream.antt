@@ -14,6 +14,9 @@ pub record State : Type 0 where
   pub height : ℕ
   pub emitted : ℕ
 
+abbrev pub stateWith : Recipe → ℕ → ℕ → ℕ → State
+stateWith r w h e = record { recipe = r; width = w; height = h; emitted = e }
+
 -- cells of a box: a width of 1 needs none, a width of 2 one, a width n of 3 or more n
 unfoldable pub boxCells : ℕ → ℕ
 boxCells n = cond (ltb n 2) 0 (cond (eqb n 2) 1 n)

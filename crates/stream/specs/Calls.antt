@@ -5,7 +5,7 @@ use Prim.Native.Nat.{ℕ, _+_}
 use lib.ListN.{length, drop, replicate}
 use Rattle.spec.specs.declared.Filter.{Filter}
 use Rattle.spec.specs.Recipe.{recipe, noFilter}
-use Rattle.spec.specs.Stream.{State as SpecState, streamCells, rowCost}
+use Rattle.spec.specs.Stream.{State as SpecState, stateWith, streamCells, rowCost}
 use Rattle.spec.specs.Refusals.{Check, first, lent, startChecks, rowChecks, drainChecks}
 use Rattle.stream.specs.declared.calls.State.{State}
 use Rattle.stream.specs.declared.calls.Started.{Started}
@@ -14,7 +14,7 @@ use Rattle.stream.specs.Stages.{worked, entering}
 
 -- the state that a struct holds
 unfoldable pub stateOf : State → SpecState
-stateOf s = record { recipe = recipe (s .filter); width = s .width; height = s .height; emitted = s .emitted }
+stateOf s = stateWith (recipe (s .filter)) (s .width) (s .height) (s .emitted)
 
 -- a recipe's state over a picture of these sides, with so many rows yielded
 abbrev pub stateAt : Filter → ℕ → ℕ → ℕ → State

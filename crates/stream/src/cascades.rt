@@ -3,9 +3,8 @@
 ghost use mathlib.Core.Path.{_≡_};
 ghost use Prim.Native.Nat.{_+_, _*_, _≤_, _<_};
 ghost use lib.ListN.{length};
-ghost use Rattle.spec.specs.Words.{total};
 ghost use Rattle.spec.specs.Recipe.{widths, recipe};
-ghost use Rattle.spec.specs.Stream.{boxCells, cascadeCells, cascadeCost, streamCells};
+ghost use Rattle.spec.specs.Stream.{boxCells, cascadeCells, cascadeCost};
 ghost use Rattle.stream.specs.Stages.{rowStage, columnStage, stages as stagesOf, worked};
 use crate::sizes::box_cells;
 use crate::stages::column_box;

@@ -10,6 +10,7 @@ use lib.IntN.{ℤ}
 use lib.ListN.{length, getD, length-set}
 use mir.Syntax.{w16}
 use mir.ValLaws.{toZ-ofZ}
+use Rattle.spec.specs.Picture.{largestGray}
 use Rattle.spec.specs.Gray.{nearestDifference}
 use Rattle.laws.proofs.Slices.{Rightwards, rightwards-none, rightwards-more, rightwards-all}
 use Rattle.gray.proofs.Dividing.{own-weight, divides-own}
@@ -43,14 +44,14 @@ module _ (c : tie.In-loop Inv-loop μ-loop) where
   abbrev start : tie.Start Inv-loop μ-loop
   start = c .before .before .before .before
 
-  left : getD (start .args .a-sums .now) (c .before .loop .k) 0 * start .args .weights .b ≤ 255 * (start .args .weights .a * start .args .weights .b)
-  left = times-other 255 (start .args .weights .a) (start .args .weights .b) _ (start .pre .1 (c .before .loop .k))
+  left : getD (start .args .a-sums .now) (c .before .loop .k) 0 * start .args .weights .b ≤ largestGray * (start .args .weights .a * start .args .weights .b)
+  left = times-other largestGray (start .args .weights .a) (start .args .weights .b) _ (start .pre .1 (c .before .loop .k))
 
-  right : getD (start .args .b-sums .now) (c .before .loop .k) 0 * start .args .weights .a ≤ 255 * (start .args .weights .a * start .args .weights .b)
+  right : getD (start .args .b-sums .now) (c .before .loop .k) 0 * start .args .weights .a ≤ largestGray * (start .args .weights .a * start .args .weights .b)
   right =
       omega (
         arith,
-        times-other 255 (start .args .weights .b) (start .args .weights .a) _ (start .pre .2 (c .before .loop .k)),
+        times-other largestGray (start .args .weights .b) (start .args .weights .a) _ (start .pre .2 (c .before .loop .k)),
         mul-comm (start .args .weights .a) (start .args .weights .b),
       )
 

@@ -8,6 +8,7 @@ use borrow.Author.Needs.{needs}
 use lib.IntN.{pos, negℤ}
 use mir.Syntax.{w16}
 use mir.ValLaws.{toZ-ofZ}
+use Rattle.spec.specs.Picture.{largestGray}
 use Rattle.spec.specs.Gray.{gray}
 use Rattle.gray.proofs.Dividing.{rounded-gray}
 use Rattle.difference.proofs.Nearest.{not-negative, negative, byte-is, negated-is, apart-fits}
@@ -25,12 +26,12 @@ rounded-requires : tie.Need-rounded-requires
 rounded-requires c κs = search needs
 
 -- it is rounded as a sum is, to at most 255
-size-is : (c : tie.After-rounded) → (c .rounded .result ≡ gray (c .before .before .args .by .weight) (c .before .if1 .gap)) × (c .rounded .result ≤ 255)
+size-is : (c : tie.After-rounded) → (c .rounded .result ≡ gray (c .before .before .args .by .weight) (c .before .if1 .gap)) × (c .rounded .result ≤ largestGray)
 size-is c =
     let start = c .before .before in
     let by = start .args .by in
-    let bounded : c .before .if1 .gap ≤ 255 * by .weight = omega (arith, gap-is (c .before), start .pre .1, start .pre .2) in
-    rounded-gray 255 (by .weight) by (start .pre .0) (omega arith) _ _ bounded (c .rounded .ensures)
+    let bounded : c .before .if1 .gap ≤ largestGray * by .weight = omega (arith, gap-is (c .before), start .pre .1, start .pre .2) in
+    rounded-gray largestGray (by .weight) by (start .pre .0) (omega arith) _ _ bounded (c .rounded .ensures)
 
 cast-size : tie.Need-cast-size
 cast-size c = let small = size-is c .1 in search needs

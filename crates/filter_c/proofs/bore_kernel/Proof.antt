@@ -4,7 +4,7 @@ use mathlib.Core.Path.{subst}
 use borrow.Author.Needs.{needs}
 use Rattle.spec.specs.declared.Cascade.{Cascade}
 use Rattle.spec.specs.Recipe.{widths}
-use Rattle.filter.specs.Filled.{Filled}
+use Rattle.filter.specs.Coefficients.{KernelFilled}
 use Rattle.filter_c.proofs.bore_kernel.Statement.{statement}
 use Rattle.filter_c.proofs.bore_kernel.Tie as tie
 
@@ -20,7 +20,7 @@ same-length c = search needs
 returns : tie.Need-returns
 returns c =
     let made = c .before .before in
-    subst (λ (l : Cascade). Filled (widths l) (made .before .before .before .before .args .out .now) (made .kernel .result) (made .kernel .last .1 .0))
+    subst (λ (l : Cascade). KernelFilled (widths l) (made .before .before .before .before .args .out .now) (made .kernel .result) (made .kernel .last .1 .0))
     (made .before .before .cascade-of .ensures) (made .kernel .ensures)
 
 pub bore-kernel-spec : {M : Type 1} → statement M

@@ -6,7 +6,7 @@ use Rattle.spec.specs.Recipe.{recipe}
 use Rattle.spec.specs.Job.{jobLength}
 use Rattle.spec.specs.Refusals.{answer, sizeChecks}
 use Rattle.laws.proofs.Refusals.{lent-refused, lent-accepted, read-refused, read-accepted}
-use Rattle.job.specs.Answers.{sizeTold}
+use Rattle.job.specs.Answers.{lengthTold}
 use Rattle.blocks.specs.Given.{given}
 use Rattle.job_c.proofs.bore_job_size.Statement.{statement}
 use Rattle.job_c.proofs.bore_job_size.Tie as tie
@@ -21,7 +21,7 @@ size-requires c κs = search needs
 answered : (c : tie.After-size) →
     let args = c .before .before .args in
     let g = recipe (given (args .block .now)) in
-    sizeTold (c .size .result) ≡ answer (sizeChecks g (args .width) (args .height)) (jobLength g (args .width) (args .height))
+    lengthTold (c .size .result) ≡ answer (sizeChecks g (args .width) (args .height)) (jobLength g (args .width) (args .height))
 answered c =
     let w = c .before .before .args .width in
     let h = c .before .before .args .height in
@@ -35,13 +35,13 @@ enum-known-answer-2 c = search needs
 
 returns : tie.Need-returns
 returns c =
-    let told = ap sizeTold (sym (c .before .answer .given .1)) ∙ answered (c .before .before .before) in
+    let told = ap lengthTold (sym (c .before .answer .given .1)) ∙ answered (c .before .before .before) in
     let q = read-refused _ _ _ told in
     (sym (q .0), sym (lent-refused _ _ _ _ (q .0) (q .1)))
 
 returns-2 : tie.Need-returns-2
 returns-2 c =
-    let told = ap sizeTold (sym (c .before .answer2 .given .1)) ∙ answered (c .before .before .before) in
+    let told = ap lengthTold (sym (c .before .answer2 .given .1)) ∙ answered (c .before .before .before) in
     let q = read-accepted _ _ _ told in
     (sym (q .0), q .1 ∙ sym (lent-accepted _ _ _ (q .0)))
 

@@ -8,7 +8,7 @@ use native.Mathlib.Omega.{arith}
 use borrow.Author.Needs.{needs}
 use lib.ListN.{length}
 use Rattle.spec.specs.Recipe.{recipe}
-use Rattle.spec.specs.Picture.{Picture, fullWidth, fullHeight}
+use Rattle.spec.specs.Picture.{largestGray, Picture, fullWidth, fullHeight}
 use Rattle.spec.specs.Refusals.{fullSize}
 use Rattle.laws.proofs.Kernels.{at}
 use Rattle.laws.proofs.Refusals.{grown-most}
@@ -55,7 +55,7 @@ carry-requires c κs =
       place .kept .1 .1 .1 .1 .1 .1 .0 ∙ start .pre .3 ∙ sym long,
       omega (arith, start .pre .1, a .sides .width .0),
       omega arith,
-      λ k h. picture-small r p W (length (args .out .now)) a (le-of-eq (sym (start .pre .1))) now (place .ensures) 255 (omega arith)
+      λ k h. picture-small r p W (length (args .out .now)) a (le-of-eq (sym (start .pre .1))) now (place .ensures) largestGray (omega arith)
           (λ i. omega (arith, known .shared-slice-known .given i)) k (omega (arith, long)),
     )
 

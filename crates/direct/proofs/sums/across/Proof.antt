@@ -12,7 +12,7 @@ use Rattle.direct.proofs.sums.across.Tie as tie
 
 abbrev Inv-loop : tie.InvT-loop
 Inv-loop line kernel i end total₀ a₀ total a =
-    (end ≡ min (length kernel) (i + 1)) × (a ≤ end) × (i + 1 ≤ a + length line) × Weighed kernel (at line) i 255 a total
+    (end ≡ min (length kernel) (i + 1)) × (a ≤ end) × (i + 1 ≤ a + length line) × Weighed kernel (at line) i 65535 a total
 
 abbrev μ-loop : tie.MeasureT-loop
 μ-loop line kernel i end total₀ a₀ total a = end - a
@@ -31,7 +31,7 @@ loop-holds c =
       search needs,
       search needs,
       search needs,
-      weighed-start (start .args .kernel .now) (at line) (start .args .i) 255 (length line) _
+      weighed-start (start .args .kernel .now) (at line) (start .args .i) 65535 (length line) _
           (λ k h. List·getD-eq-default line 0 h) (c .window-start .ensures) (start .pre .0),
     )
 
@@ -53,24 +53,24 @@ wide-requires c κs = search needs
 -- one term more, of which the total so far is a part
 next : (c : tie.After-wide Inv-loop μ-loop) → let turn = c .before .before .before .before .loop in
     let args = c .before .before .before .before .before .before .before .before .before .args in
-    Weighed (args .kernel .now) (at (args .line .now)) (args .i) 255 (turn .a + 1) (turn .total + getD (args .kernel .now) (turn .a) 0 * c .wide .result)
+    Weighed (args .kernel .now) (at (args .line .now)) (args .i) 65535 (turn .a + 1) (turn .total + getD (args .kernel .now) (turn .a) 0 * c .wide .result)
 unfolding at
 next c =
     let turn = c .before .before .before .before .loop in
     let args = c .before .before .before .before .before .before .before .before .before .args in
     let inside : turn .a ≤ args .i = omega arith in
-    weighed-more (args .kernel .now) (at (args .line .now)) (args .i) 255 (c .wide .result) (turn .inv .3) inside (c .wide .ensures)
+    weighed-more (args .kernel .now) (at (args .line .now)) (args .i) 65535 (c .wide .result) (turn .inv .3) inside (c .wide .ensures)
     (omega (arith, c .wide .ensures, c .before .shared-slice-known4 .given (args .i - turn .a)))
 
 fits : (c : tie.After-wide Inv-loop μ-loop) → let turn = c .before .before .before .before .loop in
     let args = c .before .before .before .before .before .before .before .before .before .args in
-    turn .total + getD (args .kernel .now) (turn .a) 0 * c .wide .result ≤ 255 * 2 ^ 44
+    turn .total + getD (args .kernel .now) (turn .a) 0 * c .wide .result ≤ 65535 * 2 ^ 44
 fits c =
     let turn = c .before .before .before .before .loop in
     let start = c .before .before .before .before .before .before .before .before .before in
     let args = start .args in
     let inside : turn .a + 1 ≤ length (args .kernel .now) = omega arith in
-    omega (arith, weighed-fits (args .kernel .now) (at (args .line .now)) (args .i) 255 (next c) inside, start .pre)
+    omega (arith, weighed-fits (args .kernel .now) (at (args .line .now)) (args .i) 65535 (next c) inside, start .pre)
 
 mul-total-2 : tie.Need-mul-total-2 Inv-loop μ-loop
 mul-total-2 c = omega (arith, fits c)
@@ -93,8 +93,8 @@ returns c =
     let args = c .before .before .before .before .before .before .args in
     let whole : turn .a ≡ min (length (args .kernel .now)) (args .i + 1) = omega arith in
     let inside : turn .a ≤ length (args .kernel .now) = omega arith in (
-      weighed-all (args .kernel .now) (at (args .line .now)) (args .i) 255 (turn .inv .3) whole,
-      weighed-fits (args .kernel .now) (at (args .line .now)) (args .i) 255 (turn .inv .3) inside,
+      weighed-all (args .kernel .now) (at (args .line .now)) (args .i) 65535 (turn .inv .3) whole,
+      weighed-fits (args .kernel .now) (at (args .line .now)) (args .i) 65535 (turn .inv .3) inside,
     )
 
 pub across-spec : {M : Type 1} → statement M

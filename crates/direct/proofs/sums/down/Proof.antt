@@ -18,7 +18,7 @@ use Rattle.direct.proofs.sums.down.Tie as tie
 abbrev Inv-loop : tie.InvT-loop
 Inv-loop pixels width height rows columns i j end total₀ b₀ to₀ total b to =
     (end ≡ min (length columns) (j + 1)) × (b ≤ end) × (j + 1 ≤ b + height) × (to ≡ (j + 1 - b) * width)
-    × Weighed columns (λ v. through rows (line (picture width height pixels) v) i) j (255 * mass rows) b total
+    × Weighed columns (λ v. through rows (line (picture width height pixels) v) i) j (65535 * mass rows) b total
 
 abbrev μ-loop : tie.MeasureT-loop
 μ-loop pixels width height rows columns i j end total₀ b₀ to₀ total b to = end - b
@@ -67,7 +67,7 @@ loop-holds c =
       search needs,
       start-end c .same,
       weighed-start (args .columns .now) (λ v. through (args .rows .now) (line (picture (args .width) (args .height) (args .pixels .now)) v) (args .i))
-          (args .j) (255 * mass (args .rows .now)) (args .height) _
+          (args .j) (65535 * mass (args .rows .now)) (args .height) _
           (λ v h. row-past (args .rows .now) (args .width) (args .height) (args .pixels .now) (args .i) v h)
           (c .window-start .ensures) (start .pre .0 .high .0),
     )
@@ -124,7 +124,7 @@ across-requires c κs =
 next : (c : tie.After-across Inv-loop μ-loop) → let turn = c .before .before .before .before .loop in
     let args = c .before .before .before .before .before .before .before .before .before .before .args in
     Weighed (args .columns .now) (λ v. through (args .rows .now) (line (picture (args .width) (args .height) (args .pixels .now)) v) (args .i)) (args .j)
-    (255 * mass (args .rows .now)) (turn .b + 1) (turn .total + getD (args .columns .now) (turn .b) 0 * c .across .result)
+    (65535 * mass (args .rows .now)) (turn .b + 1) (turn .total + getD (args .columns .now) (turn .b) 0 * c .across .result)
 unfolding at
 next c =
     let turn = c .before .before .before .before .loop in
@@ -136,7 +136,7 @@ next c =
     let top : from ≡ (args .j - turn .b) * args .width = omega arith in
     let end : turn .to ≡ from + args .width = omega arith in
     let high : args .j - turn .b < args .height = omega arith in
-    weighed-more (args .columns .now) (λ v. through (args .rows .now) (line p v) (args .i)) (args .j) (255 * mass (args .rows .now))
+    weighed-more (args .columns .now) (λ v. through (args .rows .now) (line p v) (args .i)) (args .j) (65535 * mass (args .rows .now))
     (c .across .result) (turn .inv .4) inside
     (c .across .ensures .0
     ∙ through-agree (args .rows .now) (at (take (turn .to - from) (drop from (args .pixels .now)))) (line p (args .j - turn .b)) (args .i)
@@ -145,14 +145,14 @@ next c =
 
 fits : (c : tie.After-across Inv-loop μ-loop) → let turn = c .before .before .before .before .loop in
     let args = c .before .before .before .before .before .before .before .before .before .before .args in
-    turn .total + getD (args .columns .now) (turn .b) 0 * c .across .result ≤ 255 * 2 ^ 44
+    turn .total + getD (args .columns .now) (turn .b) 0 * c .across .result ≤ 65535 * 2 ^ 44
 fits c =
     let turn = c .before .before .before .before .loop in
     let start = c .before .before .before .before .before .before .before .before .before .before in
     let args = start .args in
     let inside : turn .b + 1 ≤ length (args .columns .now) = omega arith in
-    let most = weighed-fits (args .columns .now) _ (args .j) (255 * mass (args .rows .now)) (next c) inside in
-    omega (arith, most, mul-assoc 255 (mass (args .rows .now)) (mass (args .columns .now)), start .pre .0 .light)
+    let most = weighed-fits (args .columns .now) _ (args .j) (65535 * mass (args .rows .now)) (next c) inside in
+    omega (arith, most, mul-assoc 65535 (mass (args .rows .now)) (mass (args .columns .now)), start .pre .0 .light)
 
 mul-total-2 : tie.Need-mul-total-2 Inv-loop μ-loop
 mul-total-2 c = omega (arith, fits c)
@@ -186,7 +186,7 @@ returns c =
     let args = c .before .before .before .before .before .before .before .args in
     let whole : turn .b ≡ min (length (args .columns .now)) (args .j + 1) = omega arith in
     weighed-all (args .columns .now) (λ v. through (args .rows .now) (line (picture (args .width) (args .height) (args .pixels .now)) v) (args .i))
-    (args .j) (255 * mass (args .rows .now)) (turn .inv .4) whole
+    (args .j) (65535 * mass (args .rows .now)) (turn .inv .4) whole
 
 pub down-spec : {M : Type 1} → statement M
 down-spec =

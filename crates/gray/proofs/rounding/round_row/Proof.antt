@@ -8,6 +8,7 @@ use lib.ListN.{length, getD, length-set}
 use Rattle.spec.specs.Gray.{gray}
 use Rattle.laws.proofs.Slices.{Rightwards, rightwards-none, rightwards-more, rightwards-all}
 use native.Mathlib.Omega.{arith}
+use Rattle.spec.specs.Picture.{largestGray}
 use Rattle.gray.proofs.Dividing.{rounded-gray}
 use Rattle.gray.proofs.Grays.{all-grays}
 use Rattle.gray.proofs.rounding.round_row.Statement.{statement}
@@ -39,10 +40,10 @@ rounded-requires : tie.Need-rounded-requires Inv-loop μ-loop
 rounded-requires c κs = search needs
 
 -- the quotient is the grey, and fits a byte
-is-gray : (c : tie.After-rounded Inv-loop μ-loop) → let a = c .before .before .before .before .before .before .args in (c .rounded .result ≡ made (a .by .weight) (a .sums .now) (c .before .before .before .loop .k)) × (c .rounded .result ≤ 255)
+is-gray : (c : tie.After-rounded Inv-loop μ-loop) → let a = c .before .before .before .before .before .before .args in (c .rounded .result ≡ made (a .by .weight) (a .sums .now) (c .before .before .before .loop .k)) × (c .rounded .result ≤ largestGray)
 is-gray c =
     let start = c .before .before .before .before .before .before in
-    rounded-gray 255 (start .args .by .weight) (start .args .by) (start .pre .0) (omega arith) _ _ (start .pre .1 (c .before .before .before .loop .k)) (c .rounded .ensures)
+    rounded-gray largestGray (start .args .by .weight) (start .args .by) (start .pre .0) (omega arith) _ _ (start .pre .1 (c .before .before .before .loop .k)) (c .rounded .ensures)
 
 cast-out : tie.Need-cast-out Inv-loop μ-loop
 cast-out c = let small = is-gray c .1 in search needs

@@ -6,7 +6,6 @@ use borrow.Author.Tests.{lt-ltb, le-ltb, eq-eqb, ne-eqb}
 use Rattle.spec.specs.Job.{mark, version}
 use Rattle.spec.specs.Refusals.{badHead}
 use mathlib.Core.Path.{ap}
-use Prim.Native.Nat.{_-_}
 use borrow.Author.Needs.{needs}
 use Rattle.job.proofs.reading.bad_head.Statement.{statement}
 use Rattle.job.proofs.reading.bad_head.Tie as tie

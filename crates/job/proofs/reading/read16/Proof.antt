@@ -1,7 +1,6 @@
 -- `job::reading::read16` meets its contract.
 -- Assumes nothing.
 use Rattle.spec.specs.Job.{read16}
-use Prim.Native.Nat.{_-_}
 use native.Mathlib.Omega.{arith}
 use borrow.Author.Needs.{needs}
 use Rattle.job.proofs.reading.read16.Statement.{statement}

@@ -7,7 +7,7 @@ use Rattle.spec.specs.Recipe.{recipe}
 use Rattle.spec.specs.Job.{jobLength}
 use Rattle.spec.specs.Refusals.{first, sizeChecks}
 use Rattle.laws.proofs.Refusals.{read-refused, read-accepted, is-sized, picture-passed}
-use Rattle.job.specs.Answers.{sizeTold}
+use Rattle.job.specs.Answers.{lengthTold}
 use Rattle.job.proofs.Answering.{area, by-sides, by-pixels, by-length, all-written}
 use Rattle.job.proofs.writing.write.Statement.{statement}
 use Rattle.job.proofs.writing.write.Tie as tie
@@ -26,7 +26,7 @@ sized : (c : tie.After-known-told2) →
     let a = c .before .before .before .before .before .before .args in
     (first (sizeChecks (recipe (a .filter)) (a .width) (a .height)) ≡ 0)
     × (c .before .answer2 .given .0 .0 ≡ jobLength (recipe (a .filter)) (a .width) (a .height))
-sized c = read-accepted _ _ _ (ap sizeTold (sym (c .before .answer2 .given .1)) ∙ c .before .before .before .size .ensures)
+sized c = read-accepted _ _ _ (ap lengthTold (sym (c .before .answer2 .given .1)) ∙ c .before .before .before .size .ensures)
 
 mul-if1 : tie.Need-mul-if1
 mul-if1 c = omega (arith, area _ _ (is-sized _ _ _ (sized c .0) .1))
@@ -46,7 +46,7 @@ fill-requires c κs =
 
 returns-3 : tie.Need-returns-3
 returns-3 c =
-    let q = read-refused _ _ _ (ap sizeTold (sym (c .before .answer .given .1)) ∙ c .before .before .before .size .ensures) in
+    let q = read-refused _ _ _ (ap lengthTold (sym (c .before .answer .given .1)) ∙ c .before .before .before .size .ensures) in
     by-sides _ _ _ _ (q .0) (q .1)
 
 same-length : tie.Need-same-length

@@ -1,7 +1,7 @@
 -- `stream::calls::drain_refusal` meets its contract: the checks in their order.
 -- Assumes nothing.
 use lib.Dec.{leb}
-use mathlib.Core.Bool.{cond, not, _||_}
+use mathlib.Core.Bool.{cond, _||_}
 use borrow.Author.Tests.{lt-ltb, le-ltb, le-leb, lt-leb}
 use Rattle.spec.specs.Picture.{fullHeight}
 use Rattle.spec.specs.Recipe.{recipe}

@@ -6,7 +6,6 @@ use Rattle.stream.specs.Private.{Ready}
 use Rattle.stream.specs.Stages.{entering}
 use Rattle.stream.specs.Calls.{stateOf, start, called, steps, answers, push}
 use Rattle.stream.proofs.States.{row-ready}
-use Rattle.stream.proofs.Loading.{black}
 use mathlib.Core.Path.{_≡_, sym, ap, subst, _∙_}
 use Rattle.spec.specs.Words.{tab}
 use native.Mathlib.Omega.{arith}

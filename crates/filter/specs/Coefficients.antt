@@ -6,7 +6,7 @@ use lib.ListN.{length}
 use Rattle.spec.specs.Recipe.{kernel}
 use Rattle.spec.specs.Refusals.{first, lent, kernelChecks}
 
-pub record Filled (ns old : List ℕ) (number : ℕ) (new : List ℕ) : Type 0 where
+pub record KernelFilled (ns old : List ℕ) (number : ℕ) (new : List ℕ) : Type 0 where
   -- 0, or the number of the first check that holds
   pub answer : number ≡ first (kernelChecks ns (length old))
   -- the coefficients, or on a refusal what the slice held
