@@ -1,7 +1,6 @@
 // Reads one job from standard input and prints its exact sums, or its refusal, on standard output. Where
 // either cannot be done, a line on standard error says so and why.
 
-// One byte more than the limit is enough to see that the input is over it.
 fn main() {
     let mut bytes = [0u8; 65537];
     let input = stdio::read_all(&mut bytes);

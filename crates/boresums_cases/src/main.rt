@@ -229,10 +229,23 @@ fn too_large() {
     show(b"-- 65,537 bytes\n", &file);
 }
 
+// Standard input, read as boresums reads it: the largest job, and a byte more.
+fn input() {
+    let mut bytes = [0u8; 65537];
+    let input = stdio::read_all(&mut bytes);
+    let z: usize = 0;
+    let count = input.count;
+    show(
+        b"-- standard input: a job of 65,536 bytes, and a byte more\n",
+        &bytes[z..count],
+    );
+}
+
 fn main() {
     files();
     refusals();
     many_lines();
     largest();
     too_large();
+    input();
 }

@@ -53,7 +53,7 @@ fn read_some(bytes: &mut [u8]) -> Input
 }
 
 // Reads until the input ends, `bytes` is full or a read fails.
-pub fn read_all(bytes: &mut [u8]) -> Input
+fn read_into(bytes: &mut [u8]) -> Input
     ensures { λ r. ⌜ r .count ≤ length (now (bytes .exit)) ⌝ }
 {
     let end = bytes.len();
@@ -75,6 +75,14 @@ pub fn read_all(bytes: &mut [u8]) -> Input
         is_read: true,
         count,
     }
+}
+
+// Reads what boresums takes: up to one byte more than the 65,536 of a job, which is enough to see that the
+// input is over that.
+pub fn read_all(bytes: &mut [u8; 65537]) -> Input
+    ensures { λ r. ⌜ r .count ≤ length (now (bytes .exit)) ⌝ }
+{
+    read_into(bytes)
 }
 
 // Writes some bytes, and answers how many; none where a write fails or none takes any.

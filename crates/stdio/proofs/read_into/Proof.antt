@@ -1,12 +1,12 @@
--- `stdio::read_all` meets its contract. The invariant: what is read lies within the bytes, which are as many as before. The measure is
+-- `stdio::read_into` meets its contract. The invariant: what is read lies within the bytes, which are as many as before. The measure is
 -- what is left of them, and each turn that goes on reads one or more.
 -- Assumes nothing.
 use mathlib.Core.Path.{_≡_}
 use Prim.Native.Nat.{_-_, _≤_}
 use borrow.Author.Needs.{needs}
 use lib.ListN.{length}
-use Rattle.stdio.proofs.read_all.Statement.{statement}
-use Rattle.stdio.proofs.read_all.Tie as tie
+use Rattle.stdio.proofs.read_into.Statement.{statement}
+use Rattle.stdio.proofs.read_into.Tie as tie
 
 abbrev Inv-loop : tie.InvT-loop
 Inv-loop bytes₀ end count₀ bytes count = (length bytes ≡ length bytes₀) × (end ≡ length bytes₀) × (count ≤ end)
@@ -56,8 +56,8 @@ same-length-3 c = search needs
 returns-3 : tie.Need-returns-3 Inv-loop μ-loop
 returns-3 c = search needs
 
-pub read-all-spec : {M : Type 1} → statement M
-read-all-spec =
+pub read-into-spec : {M : Type 1} → statement M
+read-into-spec =
     tie.close
     (tie.spec
     Inv-loop
