@@ -17,11 +17,8 @@ mod job_tables;
 mod jobs;
 mod passes;
 mod programs;
-mod stages;
-mod stream;
-mod timing;
-mod work;
 
+use bench::{stages, stream, timing, work};
 use bore::Filter;
 use convolution::{Conventional, TwoSteps};
 use std::hint::black_box;
