@@ -2,14 +2,18 @@
 -- Assumes nothing.
 use mathlib.Core.Path.{_≡_, refl, sym, ap, ap₂, _∙_}
 use mathlib.Core.List.{List, [], _∷_, _++_}
-use Prim.Native.Nat.{ℕ, zero, suc, _+_, _*_, _/_, _%_, _^_, _≤_, _<_}
-use native.Mathlib.Nat.{mul-assoc, mod-eq-of-lt, div-add-mod, mul-add-div, mul-add-mod-self-left, div-div-eq-div-mul, not-suc-le-zero, le-of-suc-le-suc, zero-lt-suc, le-refl, one-le-pow, pow-suc, pow-le-pow-right}
+use Prim.Native.Nat.{ℕ, zero, suc, _+_, _-_, _*_, _/_, _%_, _^_, _≤_, _<_}
+use native.Mathlib.Nat.{add-zero, mul-assoc, mod-eq-of-lt, div-add-mod, mul-add-div, mul-add-mod-self-left, div-div-eq-div-mul, not-suc-le-zero, le-of-suc-le-suc, zero-lt-suc, le-refl, one-le-pow, pow-suc, pow-le-pow-right, le-div-iff-mul-le, div-lt-iff-lt-mul}
 use native.Mathlib.Omega.{arith}
 use native.Mathlib.Decide.{decLt}
-use lib.ListN.{length, drop, set, length-append, length-set}
+use lib.ListN.{length, getD, drop, set, length-append, length-set}
+use lib.Pow.{pow-add}
 use lib.Seq.{append-snoc, drop-cons, getD-set-same, drop-set-lt}
 use borrow.Author.Tests.{lt-ltb, le-ltb}
+use Rattle.spec.specs.Words.{tab}
 use Rattle.spec.specs.Program.{decimalDigits, decimal}
+use Rattle.laws.proofs.Rows.{getD-rows}
+use Rattle.text.specs.Private.{Counted, digitPairs}
 
 -- the last digits of a number, as many as asked for, with zeros in front where it has fewer
 unfoldable pub places : ℕ → ℕ → List ℕ
@@ -71,6 +75,36 @@ below-twenty k n h g =
           absurd (omega arith)
     ]
 
+-- how many digits a number has, from how many there are before its last k
+pub counted-past : (k : ℕ) {n r : ℕ} → 10 ^ k ≤ n → Counted (n / 10 ^ k) r → Counted n (r + k)
+counted-past k {n} {r} h c =
+    let p = one-le-pow k 10 (omega arith) in
+    let back : r + k - 1 ≡ r - 1 + k = omega (arith, c .some) in
+    let first : 10 ^ (r - 1) ≤ n / 10 ^ k =
+    elim (decLt 1 r) [
+      | yes g ↦ c .reached g
+      | no g ↦ let e : r - 1 ≡ 0 = omega arith in rw e (le-div-iff-mul-le p .1 (omega arith))
+    ] in
+    record {
+      some = omega (arith, c .some);
+      below = rw (pow-add 10 r k) (div-lt-iff-lt-mul p .0 (c .below));
+      reached = λ g. rw (back, pow-add 10 (r - 1) k) (le-div-iff-mul-le p .0 first);
+    }
+
+pub counted-length : {n r : ℕ} → n < 2 ^ 64 → Counted n r → (r ≡ length (decimal n)) × (r ≤ 20)
+unfolding decimal
+counted-length {n} {r} g c =
+    let k = r - 1 in
+    let e : suc k ≡ r = omega (arith, c .some) in
+    let most : k < 20 =
+    elim (decLt 1 r) [
+      | yes l ↦ below-twenty k n (c .reached l) g
+      | no l ↦ omega arith
+    ] in (
+      sym (length-digits 20 k n most (λ l. c .reached (omega arith)) (rw e (c .below)) ∙ e),
+      omega arith,
+    )
+
 -- a number's digits are its last digits, as many as it has
 pub digits-places : (most n : ℕ) → decimalDigits most n ≡ places (length (decimalDigits most n)) n
 unfolding places decimalDigits
@@ -120,3 +154,17 @@ places-pair k n l h =
     places-more (suc k) n l h
     ∙ places-more k (n / 10) (set l (suc k) low) inside
     ∙ (λ i. places k (div-div-eq-div-mul n 10 10 i) ++ drop k (set (set l (suc k) (48 + last-digit n i)) k (48 + next-digit n i)))
+
+-- the digits of a pair, in the table of all pairs
+digit : ℕ → ℕ → ℕ
+digit p zero = 48 + p / 10
+digit p (suc k) = 48 + p % 10
+
+module _ (p : ℕ) (h : p < 100) where
+  pub pair-tens : getD digitPairs (p * 2) 0 ≡ 48 + p / 10
+  unfolding digitPairs tab digit
+  pair-tens = ap (λ k. getD digitPairs k 0) (sym (add-zero (p * 2))) ∙ getD-rows 2 100 digit 0 p 0 h (omega arith)
+
+  pub pair-ones : getD digitPairs (p * 2 + 1) 0 ≡ 48 + p % 10
+  unfolding digitPairs tab digit
+  pair-ones = getD-rows 2 100 digit 0 p 1 h (omega arith)

@@ -1,31 +1,67 @@
 // The text that the program prints: numbers in decimal on one line, and the line of a refusal.
 ghost use mathlib.Core.Path.{_≡_};
 ghost use mathlib.Core.List.{_∷_, _++_};
-ghost use Prim.Native.Nat.{_+_, _*_, _≤_};
+ghost use Prim.Native.Nat.{_+_, _*_, _≤_, _<_};
 ghost use lib.ListN.{length, take, drop};
 ghost use Rattle.spec.specs.Program.{decimal, line as lineOf, refusalPrinted};
 ghost use Rattle.text.specs.Printed.{Printed, lineTold};
+ghost use Rattle.text.specs.Private.{Counted, digitPairs};
 
 mod answers;
 
 pub use answers::Line;
 
-// How many decimal digits a number has. The limit grows tenfold, up to the number.
+// How many decimal digits a number below 10^5 has, by comparisons.
+fn count_up_to_5(n: u64) -> usize
+    requires { ⌜ n < 100000 ⌝ }
+    ensures { λ r. ⌜ Counted n r × (r ≤ 5) ⌝ }
+{
+    if n < 100 {
+        if n < 10 {
+            return 1;
+        }
+        return 2;
+    }
+    if n < 1000 {
+        return 3;
+    }
+    if n < 10000 {
+        return 4;
+    }
+    5
+}
+
+// The same below 10^10: of more than five digits, those before the last five are counted.
+fn count_up_to_10(n: u64) -> usize
+    requires { ⌜ n < 10000000000 ⌝ }
+    ensures { λ r. ⌜ Counted n r × (r ≤ 10) ⌝ }
+{
+    if n < 100000 {
+        return count_up_to_5(n);
+    }
+    count_up_to_5(n / 100000) + 5
+}
+
+// How many decimal digits a number has: of more than ten, those before the last ten are counted.
 fn digit_count(n: u64) -> usize
     ensures { λ r. ⌜ (r ≡ length (decimal n)) × (r ≤ 20) ⌝ }
 {
-    let tenth = n / 10;
-    let mut limit: u64 = 1;
-    let mut count: usize = 1;
-    while limit <= tenth {
-        limit *= 10;
-        count += 1;
+    if n < 10000000000 {
+        return count_up_to_10(n);
     }
-    count
+    count_up_to_10(n / 10000000000) + 10
 }
 
-// A number's digits into a slice of just as many bytes, two at a time from the last to the first.
-fn spell(n: u64, out: &mut [u8])
+// The two digits of each number of 0 to 99. A line makes this table once and lends it: it is copied wherever it is made.
+fn digit_pairs() -> [u8; 200]
+    ensures { λ r. ⌜ r ≡ digitPairs ⌝ }
+{
+    *b"00010203040506070809101112131415161718192021222324252627282930313233343536373839404142434445464748495051525354555657585960616263646566676869707172737475767778798081828384858687888990919293949596979899"
+}
+
+// A number's digits into a slice of just as many bytes, two at a time from the last to the first, by a table of the pairs.
+fn spell(n: u64, pairs: &[u8; 200], out: &mut [u8])
+    requires { ⌜ now pairs ≡ digitPairs ⌝ }
     requires { ⌜ length (now out) ≡ length (decimal n) ⌝ }
     ensures { λ r. ⌜ now (out .exit) ≡ decimal n ⌝ }
 {
@@ -33,9 +69,12 @@ fn spell(n: u64, out: &mut [u8])
     let mut k = out.len();
     while 1 < k {
         k -= 2;
-        let pair = rest % 100;
-        out[k + 1] = 48 + (pair % 10) as u8;
-        out[k] = 48 + (pair / 10) as u8;
+        let at = (rest % 100) as usize * 2;
+        // both are read before either is written: the compiler then moves them at once
+        let tens = pairs[at];
+        let ones = pairs[at + 1];
+        out[k + 1] = ones;
+        out[k] = tens;
         rest = rest / 100;
     }
     if 0 < k {
@@ -44,12 +83,13 @@ fn spell(n: u64, out: &mut [u8])
 }
 
 // A number and a space, from a place on; the place after them.
-fn put(n: u64, out: &mut [u8], from: usize) -> usize
+fn put(n: u64, pairs: &[u8; 200], out: &mut [u8], from: usize) -> usize
+    requires { ⌜ now pairs ≡ digitPairs ⌝ }
     requires { ⌜ from + 21 ≤ length (now out) ⌝ }
     ensures { λ r. ⌜ (r ≡ from + (length (decimal n) + 1)) × (r ≤ from + 21) × (now (out .exit) ≡ take from (now (out .entry)) ++ (decimal n ++ (32 ∷ drop r (now (out .entry))))) ⌝ }
 {
     let end = from + digit_count(n);
-    spell(n, &mut out[from..end]);
+    spell(n, pairs, &mut out[from..end]);
     out[end] = 32;
     end + 1
 }
@@ -59,9 +99,10 @@ fn fill(numbers: &[u64], out: &mut [u8]) -> usize
     requires { ⌜ length (now out) ≡ 21 * length (now numbers) + 1 ⌝ }
     ensures { λ r. ⌜ (r ≡ length (lineOf (now (numbers .entry)))) × (now (out .exit) ≡ lineOf (now (numbers .entry)) ++ drop r (now (out .entry))) ⌝ }
 {
+    let pairs = digit_pairs();
     let mut next: usize = 0;
     for i in 0..numbers.len() {
-        next = put(numbers[i], out, next);
+        next = put(numbers[i], &pairs, out, next);
     }
     let last = if next == 0 { 0 } else { next - 1 };
     out[last] = 10;
@@ -94,7 +135,8 @@ pub fn refusal_line(number: u8, out: &mut [u8; 64]) -> usize
     out[5] = 0x65;
     out[6] = 0x64;
     out[7] = 0x20;
-    let next = put(number as u64, out, 8);
+    let pairs = digit_pairs();
+    let next = put(number as u64, &pairs, out, 8);
     out[next - 1] = 10;
     next
 }

@@ -11,15 +11,18 @@ use Rattle.text.proofs.fill.Statement.{statement}
 use Rattle.text.proofs.fill.Tie as tie
 
 abbrev Inv-loop : tie.InvT-loop
-Inv-loop numbers out₀ next₀ i₀ i-end out next i =
+Inv-loop numbers out₀ pairs next₀ i₀ i-end out next i =
     (i-end ≡ length numbers) × (length out ≡ length out₀) × (i ≤ i-end) × Laid numbers out₀ i next out
 
 abbrev μ-loop : tie.MeasureT-loop
-μ-loop numbers out₀ next₀ i₀ i-end out next i = i-end - i
+μ-loop numbers out₀ pairs next₀ i₀ i-end out next i = i-end - i
+
+digit-pairs-requires : tie.Need-digit-pairs-requires Inv-loop μ-loop
+digit-pairs-requires c κs = search needs
 
 loop-holds : tie.Need-loop-holds Inv-loop μ-loop
 loop-holds c =
-    let args = c .before .before .args in
+    let args = c .before .before .before .args in
     (search needs, search needs, search needs, laid-none (args .numbers .now) (args .out .now))
 
 mul-put : tie.Need-mul-put Inv-loop μ-loop
@@ -30,9 +33,9 @@ shared-slice-read-put c = search needs
 
 put-requires : tie.Need-put-requires Inv-loop μ-loop
 put-requires c κs =
-    let start = c .before .before .before .before .before .before in
-    let turn = c .before .before .before .loop in
-    omega (arith, start .pre, turn .inv .3 .few)
+    let start = c .before .before .before .before .before .before .before .before in
+    let turn = c .before .before .before .before .loop in
+    (c .before .before .before .before .before .digit-pairs .ensures, omega (arith, start .pre, turn .inv .3 .few))
 
 add-i : tie.Need-add-i Inv-loop μ-loop
 add-i c = search needs
@@ -42,11 +45,11 @@ loop-less c = search needs
 
 loop-again : tie.Need-loop-again Inv-loop μ-loop
 loop-again c =
-    let turn = c .before .before .before .before .before .before .loop in
-    let args = c .before .before .before .before .before .before .before .before .before .args in
+    let turn = c .before .before .before .before .before .before .before .loop in
+    let args = c .before .before .before .before .before .before .before .before .before .before .before .args in
     let made = c .before .before .put in (
       search needs,
-      made .kept .1 .0 ∙ turn .inv .1,
+      made .kept .1 .1 .0 ∙ turn .inv .1,
       search needs,
       laid-more (args .numbers .now) (args .out .now) (turn .inv .3) (search needs) (made .ensures .0) (made .ensures .1) (made .ensures .2),
     )
@@ -56,10 +59,10 @@ sub-last c = search needs
 
 -- where the line's end goes, and that there is room
 last : (c : tie.Joined1 Inv-loop μ-loop) →
-    (c .if1 .last ≡ c .before .before .loop .next - 1) × (c .before .before .loop .next < length (c .before .before .before .before .before .args .out .now))
+    (c .if1 .last ≡ c .before .before .loop .next - 1) × (c .before .before .loop .next < length (c .before .before .before .before .before .before .args .out .now))
 last c =
     let turn = c .before .before .loop in
-    let start = c .before .before .before .before .before in
+    let start = c .before .before .before .before .before .before in
     (⊎-elim (λ w. omega (arith, w)) (λ w. omega (arith, w)) (c .if1 .came), omega (arith, start .pre, turn .inv .3 .few))
 
 slice-write-out : tie.Need-slice-write-out Inv-loop μ-loop
@@ -74,7 +77,7 @@ same-length c = simp length-set (c .before .before .before .loop .inv .1)
 returns : tie.Need-returns Inv-loop μ-loop
 returns c =
     let turn = c .before .before .before .loop in
-    let args = c .before .before .before .before .before .before .args in
+    let args = c .before .before .before .before .before .before .before .args in
     let l = last (c .before) in
     let made = laid-line (args .numbers .now) (args .out .now) (turn .inv .3) (omega arith) (l .1) in
     (rw (l .0) (made .0), rw (l .0) (made .1))
@@ -85,6 +88,7 @@ fill-spec =
     (tie.spec
     Inv-loop
     μ-loop
+    digit-pairs-requires
     loop-holds
     mul-put
     shared-slice-read-put

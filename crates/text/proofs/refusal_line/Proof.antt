@@ -35,8 +35,11 @@ element-write-out-7 c = search needs
 element-write-out-8 : tie.Need-element-write-out-8
 element-write-out-8 c = search needs
 
+digit-pairs-requires : tie.Need-digit-pairs-requires
+digit-pairs-requires c κs = search needs
+
 put-requires : tie.Need-put-requires
-put-requires c κs = search needs
+put-requires c κs = (c .before .before .digit-pairs .ensures, search needs)
 
 sub-out : tie.Need-sub-out
 sub-out c = search needs
@@ -46,7 +49,7 @@ element-write-out-9 c = search needs
 
 returns : tie.Need-returns
 returns c =
-    let args = c .before .before .args in
+    let args = c .before .before .before .before .args in
     let old = args .out .now in
     let size : length old ≡ 64 = simp length-set at (c .before .put-arg .given .0 .1) in
     let room : 8 ≤ length old = omega arith in
@@ -67,6 +70,7 @@ refusal-line-spec =
     element-write-out-6
     element-write-out-7
     element-write-out-8
+    digit-pairs-requires
     put-requires
     sub-out
     element-write-out-9

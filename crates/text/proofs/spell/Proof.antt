@@ -1,25 +1,25 @@
 -- `text::spell` meets its contract. Before each turn the first k digits of what is left of the number are still to be
--- written, and after the last at most one.
+-- written, and after the last at most one. Two digits at a time are those of the table.
 -- Assumes nothing.
 use mathlib.Core.Path.{_≡_, sym, ap, _∙_}
 use mathlib.Core.List.{_++_, append-nil}
-use Prim.Native.Nat.{ℕ, suc, _+_, _-_, _/_, _%_, _≤_}
+use Prim.Native.Nat.{ℕ, suc, _+_, _-_, _*_, _/_, _%_, _≤_}
 use native.Mathlib.Numerals.{add-one}
 use native.Mathlib.Omega.{arith}
 use borrow.Author.Needs.{needs}
-use lib.ListN.{length, drop, set, length-set}
+use lib.ListN.{length, getD, drop, set, length-set}
 use lib.Seq.{drop-length}
 use Rattle.spec.specs.Program.{decimal}
-use Rattle.text.proofs.Digits.{places, places-more, places-pair, digits-places}
+use Rattle.text.proofs.Digits.{places, places-more, places-pair, digits-places, pair-tens, pair-ones}
 use Rattle.text.proofs.spell.Statement.{statement}
 use Rattle.text.proofs.spell.Tie as tie
 
 abbrev Inv-loop : tie.InvT-loop
-Inv-loop n out₀ rest₀ k₀ out rest k =
+Inv-loop n pairs out₀ rest₀ k₀ out rest k =
     (length out ≡ length out₀) × (k ≤ length out₀) × (places (length out₀) n ≡ places k rest ++ drop k out)
 
 abbrev μ-loop : tie.MeasureT-loop
-μ-loop n out₀ rest₀ k₀ out rest k = k
+μ-loop n pairs out₀ rest₀ k₀ out rest k = k
 
 loop-holds : tie.Need-loop-holds Inv-loop μ-loop
 loop-holds c =
@@ -29,23 +29,23 @@ loop-holds c =
 sub-k : tie.Need-sub-k Inv-loop μ-loop
 sub-k c = search needs
 
-cast-out : tie.Need-cast-out Inv-loop μ-loop
-cast-out c = search needs
+mul-at : tie.Need-mul-at Inv-loop μ-loop
+mul-at c = search needs
+
+element-copy-out-tens : tie.Need-element-copy-out-tens Inv-loop μ-loop
+element-copy-out-tens c = search needs
+
+add-ones : tie.Need-add-ones Inv-loop μ-loop
+add-ones c = search needs
+
+element-copy-out-ones : tie.Need-element-copy-out-ones Inv-loop μ-loop
+element-copy-out-ones c = search needs
 
 add-out : tie.Need-add-out Inv-loop μ-loop
 add-out c = search needs
 
-add-out-2 : tie.Need-add-out-2 Inv-loop μ-loop
-add-out-2 c = search needs
-
 slice-write-out : tie.Need-slice-write-out Inv-loop μ-loop
 slice-write-out c = search needs
-
-cast-out-2 : tie.Need-cast-out-2 Inv-loop μ-loop
-cast-out-2 c = search needs
-
-add-out-3 : tie.Need-add-out-3 Inv-loop μ-loop
-add-out-3 c = search needs
 
 slice-write-out-2 : tie.Need-slice-write-out-2 Inv-loop μ-loop
 slice-write-out-2 c = simp length-set (omega arith)
@@ -55,22 +55,26 @@ loop-less c = search needs
 
 loop-again : tie.Need-loop-again Inv-loop μ-loop
 loop-again c =
-    let turn = c .before .loop in
+    let turn = c .before .before .before .loop in
     let j = turn .k - 2 in
-    let e : turn .k ≡ suc (suc j) = omega arith in (
+    let e : turn .k ≡ suc (suc j) = omega arith in
+    let p = turn .rest % 100 in
+    let all = c .before .before .before .before .pre .0 in
+    let tens = ap (λ l. getD l (p * 2) 0) all ∙ pair-tens p (omega arith) in
+    let ones = ap (λ l. getD l (p * 2 + 1) 0) all ∙ pair-ones p (omega arith) in (
       simp length-set (turn .inv .0),
       search needs,
       turn .inv .2
           ∙ ap (λ k. places k (turn .rest) ++ drop k (turn .out)) e
           ∙ places-pair j (turn .rest) (turn .out) (omega arith)
-          ∙ ap (λ m. places j (turn .rest / 100) ++ drop j (set (set (turn .out) m (48 + turn .rest % 100 % 10)) j (48 + turn .rest % 100 / 10))) (sym (add-one j)),
+          ∙ (λ i. places j (turn .rest / 100) ++ drop j (set (set (turn .out) (sym (add-one j) i) (sym ones i)) j (sym tens i))),
     )
 
-cast-out-3 : tie.Need-cast-out-3 Inv-loop μ-loop
-cast-out-3 c = search needs
+cast-out : tie.Need-cast-out Inv-loop μ-loop
+cast-out c = search needs
 
-add-out-4 : tie.Need-add-out-4 Inv-loop μ-loop
-add-out-4 c = search needs
+add-out-2 : tie.Need-add-out-2 Inv-loop μ-loop
+add-out-2 c = search needs
 
 slice-write-out-3 : tie.Need-slice-write-out-3 Inv-loop μ-loop
 slice-write-out-3 c = search needs
@@ -83,7 +87,7 @@ left : (c : tie.At-loop Inv-loop μ-loop) → (k : ℕ) → c .loop .k ≡ k →
 unfolding decimal
 left c k e =
     digits-places 20 (c .before .args .n)
-    ∙ ap (λ m. places m (c .before .args .n)) (sym (c .before .pre))
+    ∙ ap (λ m. places m (c .before .args .n)) (sym (c .before .pre .1))
     ∙ c .loop .inv .2
     ∙ ap (λ m. places m (c .loop .rest) ++ drop m (c .loop .out)) e
 
@@ -108,17 +112,17 @@ spell-spec =
     μ-loop
     loop-holds
     sub-k
-    cast-out
+    mul-at
+    element-copy-out-tens
+    add-ones
+    element-copy-out-ones
     add-out
-    add-out-2
     slice-write-out
-    cast-out-2
-    add-out-3
     slice-write-out-2
     loop-less
     loop-again
-    cast-out-3
-    add-out-4
+    cast-out
+    add-out-2
     slice-write-out-3
     same-length
     returns
