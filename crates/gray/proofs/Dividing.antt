@@ -4,13 +4,13 @@
 use mathlib.Core.Path.{_≡_, refl, sym, ap, subst, _∙_}
 use mathlib.Core.Bool.{Bool, true, false, cond}
 use Prim.Native.Nat.{ℕ, zero, suc, _+_, _*_, _/_, _%_, _^_, _≤_, _<_}
-use native.Mathlib.Nat.{mod-eq-of-lt, mul-le-mul, suc-mul, div-lt-iff-lt-mul, div-div-eq-div-mul, pow-zero, pow-suc, le-of-suc-le-suc}
+use native.Mathlib.Nat.{mod-eq-of-lt, mul-le-mul, mul-le-mul-left, mul-le-mul-right, mul-lt-mul-of-pos-right, le-of-mul-le-mul-right, lt-of-mul-lt-mul-right, mul-add, add-mul, suc-mul, mul-assoc, mul-right-comm, div-mul-le-self, mul-div-le, lt-div-mul-add, le-div-iff-mul-le, div-lt-iff-lt-mul, div-eq-of-lt-le, div-div-eq-div-mul, pow-zero, pow-suc, le-of-suc-le-suc}
 use native.Mathlib.Omega.{arith}
-use borrow.Author.Tests.{eqb-true}
-use lib.Dec.{eqb}
+use borrow.Author.Tests.{eqb-true, leb-true, leb-false}
+use lib.Dec.{eqb, leb}
 use lib.Count.{ones, ones-step, trailingZeros, under}
 use Rattle.spec.specs.Gray.{gray, nearest}
-use Rattle.gray.specs.Division.{divisor, quotient, Divides}
+use Rattle.gray.specs.Division.{reciprocalBits, divisor, estimate, byReciprocal, quotient, Divides}
 use Rattle.gray.specs.declared.rounding.Divisor.{Divisor}
 
 -- a number below 2^k with no bit set
@@ -48,19 +48,105 @@ by-shift w light e =
     let q = single-bit 64 w (omega arith) (eqb-true (ones w) 1 e) in
     ap (λ k. 2 ^ k) (mod-eq-of-lt (q .1)) ∙ q .0
 
--- a weight that is not 0 and at most 2^44, and a sum of at most a largest grey times it, of at most 16 bits
-module _ (most w s : ℕ) (positive : 0 < w) (light : w ≤ 2 ^ 44) (few : most ≤ 65535) (bounded : s ≤ most * w) where
-  fits : (s + w / 2) % 2 ^ 64 ≡ s + w / 2
-  fits = mod-eq-of-lt (omega (arith, mul-le-mul few light))
+-- a number times a reciprocal, in which `unit` stands for 1
+abbrev scaled : ℕ → ℕ → ℕ → ℕ
+scaled unit w n = n * (unit / w) / unit
+
+-- where the number is at most that unit, this is the quotient or one less
+module _ (unit w n : ℕ) (positive : 0 < w) (some : 0 < unit) (near : n ≤ unit) where
+  abbrev e : ℕ
+  e = scaled unit w n
+
+  not-above : e * w ≤ n
+  not-above =
+      let r = unit / w in
+      le-of-mul-le-mul-right
+      (omega (
+        arith,
+        mul-right-comm e w unit,
+        mul-le-mul-right w (div-mul-le-self (n * r) unit),
+        mul-assoc n r w,
+        mul-le-mul-left n (div-mul-le-self unit w),
+      ))
+      some
+
+  one-less : n < (e + 2) * w
+  one-less =
+      let r = unit / w in
+      let above : unit ≤ r * w + w = omega (arith, lt-div-mul-add {a = unit} positive) in
+      lt-of-mul-lt-mul-right unit
+      (omega (
+        arith,
+        mul-le-mul-left n above,
+        mul-add n (r * w) w,
+        mul-assoc n r w,
+        mul-lt-mul-of-pos-right (lt-div-mul-add {a = n * r} some) positive,
+        add-mul (e * unit) unit w,
+        mul-le-mul-right w near,
+        mul-right-comm (e + 2) w unit,
+        ap (λ x. x * w) (add-mul e 2 unit) ∙ add-mul (e * unit) (2 * unit) w,
+        mul-assoc 2 unit w,
+      ))
+
+  -- the next multiple of the weight tells which
+  next-tells : cond (leb ((e + 1) * w) n) (e + 1) e ≡ n / w
+  next-tells = go (leb ((e + 1) * w) n) (leb-true _ _) (leb-false _ _)
+    where
+      go : (b : Bool) → (b ≡ true → (e + 1) * w ≤ n) → (b ≡ false → n < (e + 1) * w) → cond b (e + 1) e ≡ n / w
+      go true up down = sym (div-eq-of-lt-le w (up refl) (omega (arith, add-mul e 1 w, add-mul e 2 w, add-mul (e + 1) 1 w, one-less)))
+      go false up down = sym (div-eq-of-lt-le w not-above (down refl))
+
+-- a weight that is not 0 and at most 2^44, and a sum of at most a largest grey times it, for which a reciprocal has few enough bits
+module _ (most w s : ℕ) (positive : 0 < w) (light : w ≤ 2 ^ 44) (few : (most + 1) * 2 ^ reciprocalBits ≤ 2 ^ 64) (bounded : s ≤ most * w) where
+  abbrev raised : ℕ
+  raised = s + w / 2
+
+  raised-less : raised < (most + 1) * w
+  raised-less = omega (arith, add-mul most 1 w)
+
+  raised-near : raised ≤ 2 ^ reciprocalBits
+  raised-near =
+      let grays : most + 1 ≤ 2 ^ 9 = omega arith in
+      omega (arith, raised-less, mul-le-mul grays light)
+
+  fits : raised % 2 ^ 64 ≡ raised
+  fits = mod-eq-of-lt (omega (arith, raised-near))
+
+  -- neither product leaves 64 bits
+  first-fits : raised * (2 ^ reciprocalBits / w) < 2 ^ 64
+  first-fits =
+      let r = 2 ^ reciprocalBits / w in
+      let some : 0 < r = le-div-iff-mul-le positive .1 (omega (arith, light)) in
+      omega (
+        arith,
+        mul-lt-mul-of-pos-right raised-less some,
+        mul-assoc (most + 1) w r,
+        mul-le-mul-left (most + 1) (mul-div-le (2 ^ reciprocalBits) w),
+        few,
+      )
+
+  second-fits : (scaled (2 ^ reciprocalBits) w raised + 1) * w < 2 ^ 64
+  second-fits =
+      let e = scaled (2 ^ reciprocalBits) w raised in
+      omega (arith, add-mul e 1 w, not-above (2 ^ reciprocalBits) w raised positive (omega arith) raised-near, raised-near, light)
+
+  by-multiple : byReciprocal (divisor w) raised ≡ raised / w
+  unfolding estimate byReciprocal
+  by-multiple =
+      let one = 2 ^ reciprocalBits in
+      let e = scaled one w raised in
+      ap (λ x. cond (leb ((x / one + 1) * w % 2 ^ 64) raised) (x / one + 1) (x / one)) (mod-eq-of-lt first-fits)
+      ∙ ap (λ x. cond (leb x raised) (e + 1) e) (mod-eq-of-lt second-fits)
+      ∙ next-tells one w raised positive (omega arith) raised-near
 
   pub quotient-gray : quotient (divisor w) s ≡ gray w s
   unfolding quotient gray
-  quotient-gray = ap (λ x. cond (eqb (ones w) 1) (x / 2 ^ (trailingZeros 64 w % 64)) (x / w)) fits ∙ go (eqb (ones w) 1) (by-shift w light)
+  quotient-gray = ap (λ x. cond (eqb (ones w) 1) (x / 2 ^ (trailingZeros 64 w % 64)) (byReciprocal (divisor w) x)) fits ∙ go (eqb (ones w) 1) (by-shift w light)
     where
       go : (b : Bool) → (b ≡ true → 2 ^ (trailingZeros 64 w % 64) ≡ w)
-          → cond b ((s + w / 2) / 2 ^ (trailingZeros 64 w % 64)) ((s + w / 2) / w) ≡ (s + w / 2) / w
-      go true shift = ap (λ d. (s + w / 2) / d) (shift refl)
-      go false shift = refl
+          → cond b (raised / 2 ^ (trailingZeros 64 w % 64)) (byReciprocal (divisor w) raised) ≡ raised / w
+      go true shift = ap (λ d. raised / d) (shift refl)
+      go false shift = by-multiple
 
   -- its grey is at most that
   pub gray-most : gray w s ≤ most
@@ -75,7 +161,7 @@ pub divides-own : (w : ℕ) (by : Divisor) → Divides w by → Divides (by .wei
 divides-own w by d = subst (λ v. Divides v by) (sym (own-weight w by d)) d
 
 -- a quotient that is a grey
-pub rounded-gray : (most w : ℕ) (by : Divisor) → Divides w by → most ≤ 65535 → (s q : ℕ) → s ≤ most * w → q ≡ quotient by s → (q ≡ gray w s) × (q ≤ most)
+pub rounded-gray : (most w : ℕ) (by : Divisor) → Divides w by → (most + 1) * 2 ^ reciprocalBits ≤ 2 ^ 64 → (s q : ℕ) → s ≤ most * w → q ≡ quotient by s → (q ≡ gray w s) × (q ≤ most)
 rounded-gray most w by d few s q bounded e =
     let is = e ∙ ap (λ (x : Divisor). quotient x s) (d .is) ∙ quotient-gray most w s (d .notZero) (d .light) few bounded in
     (is, subst (λ x. x ≤ most) (sym is) (gray-most most w s (d .notZero) (d .light) few bounded))

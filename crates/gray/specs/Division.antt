@@ -3,20 +3,44 @@ use mathlib.Core.Path.{_≡_}
 use mathlib.Core.Bool.{cond}
 use mathlib.Core.List.{List}
 use Prim.Native.Nat.{ℕ, _+_, _*_, _/_, _%_, _^_, _≤_, _<_}
-use lib.Dec.{eqb}
+use lib.Dec.{eqb, leb}
 use lib.Count.{ones, trailingZeros}
 use lib.ListN.{getD}
 use Rattle.gray.specs.declared.rounding.Divisor.{Divisor}
 
--- what is kept to divide by a weight: its half, whether it has a single bit set, and how many zeros stand below the lowest bit
-abbrev pub divisor : ℕ → Divisor
-divisor weight = record { weight = weight; half = weight / 2; single = eqb (ones weight) 1; shift = trailingZeros 64 weight }
+-- 2 to the power of these bits stands for 1 in a reciprocal. For greys of at most `most` over weights of at most 2^44 it must be such that
+-- (most + 1) * 2 ^ reciprocalBits ≤ 2 ^ 64, so that a sum times a reciprocal fits 64 bits, and (most + 1) * 2 ^ 44 ≤ 2 ^ reciprocalBits,
+-- so that an estimate is at most one too small. Both hold for greys of at most 255, and up to 511.
+abbrev pub reciprocalBits : ℕ
+reciprocalBits = 55
 
--- the sum and the half, in 64 bits, divided by the shift or by the weight; x / 0 is 0
+-- what is kept to divide by a weight: its half, its reciprocal, whether it has a single bit set, and how many zeros stand below the lowest
+-- bit; x / 0 is 0
+abbrev pub divisor : ℕ → Divisor
+divisor weight =
+    record {
+      weight = weight;
+      half = weight / 2;
+      reciprocal = 2 ^ reciprocalBits / weight;
+      single = eqb (ones weight) 1;
+      shift = trailingZeros 64 weight;
+    }
+
+-- the quotient or one less, by the reciprocal, in 64 bits
+unfoldable pub estimate : Divisor → ℕ → ℕ
+estimate by raised = raised * by .reciprocal % 2 ^ 64 / 2 ^ reciprocalBits
+
+-- one more than the estimate where that many times the weight, in 64 bits, is not above the number
+unfoldable pub byReciprocal : Divisor → ℕ → ℕ
+byReciprocal by raised =
+    let next = estimate by raised + 1 in
+    cond (leb (next * by .weight % 2 ^ 64) raised) next (estimate by raised)
+
+-- the sum and the half, in 64 bits, divided by the shift or by the reciprocal
 unfoldable pub quotient : Divisor → ℕ → ℕ
 quotient by sum =
     let raised = (sum + by .half) % 2 ^ 64 in
-    cond (by .single) (raised / 2 ^ (by .shift % 64)) (raised / by .weight)
+    cond (by .single) (raised / 2 ^ (by .shift % 64)) (byReciprocal by raised)
 
 -- ---- words for the contracts of private functions
 

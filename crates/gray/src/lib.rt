@@ -1,6 +1,7 @@
 // Document 01's greys: rounding, and the same-size blur.
 mod rounding;
 mod same;
+mod wrapping;
 
 pub use rounding::Divisor;
 pub use rounding::divisor_of;

@@ -6,8 +6,9 @@ ghost use Rattle.spec.specs.Words.{somewhere};
 ghost use Rattle.spec.specs.Recipe.{recipe};
 ghost use Rattle.spec.specs.Picture.{largestGray};
 ghost use Rattle.spec.specs.Gray.{grays};
-ghost use Rattle.gray.specs.Division.{divisor, quotient, Divides, Bounded};
+ghost use Rattle.gray.specs.Division.{divisor, byReciprocal, quotient, Divides, Bounded};
 ghost use Rattle.gray.specs.Rounded.{Rounded};
+use crate::wrapping::wrapping_mul_u64;
 use filter::measure;
 use spec::Filter;
 use std::num::wrapping_add_u64;
@@ -15,11 +16,15 @@ use std::num::wrapping_add_u64;
 // Greys are bytes.
 const LARGEST_GRAY: u64 = 255;
 
-// A weight to divide by: its half, downwards, and whether it has a single bit set; a shift then divides
-// by it.
+// `reciprocalBits` of `specs/Division.antt`, where it is said what it must be for a largest grey.
+const RECIPROCAL_BITS: u32 = 55;
+
+// A weight to divide by: its half, downwards; 2^55 over it, downwards, or 0 for a weight of 0; and whether
+// it has a single bit set, since a shift then divides by it.
 pub struct Divisor {
     pub weight: u64,
     pub half: u64,
+    pub reciprocal: u64,
     pub single: bool,
     pub shift: u32,
 }
@@ -27,26 +32,44 @@ pub struct Divisor {
 pub fn divisor_of(weight: u64) -> Divisor
     ensures { λ r. ⌜ r ≡ divisor weight ⌝ }
 {
+    let reciprocal = if weight == 0 {
+        0
+    } else {
+        (1u64 << RECIPROCAL_BITS) / weight
+    };
     Divisor {
         weight,
         half: weight / 2,
+        reciprocal,
         single: u64::count_ones(weight) == 1,
         shift: u64::trailing_zeros(weight),
     }
 }
 
-// A sum over the weight, to the nearest whole number, a half upwards, where the sum and the half fit 64
-// bits, by a divisor from `divisor_of`; over a weight of 0 it is 0.
+// The quotient by the reciprocal. The estimate is the quotient or one less, so that the next multiple of
+// the weight tells which; it is asked without a branch.
+fn by_reciprocal(raised: u64, by: Divisor) -> u64
+    ensures { λ r. ⌜ r ≡ byReciprocal by raised ⌝ }
+{
+    let estimate = wrapping_mul_u64(raised, by.reciprocal) >> RECIPROCAL_BITS;
+    let next = wrapping_mul_u64(estimate + 1, by.weight);
+    if next <= raised {
+        estimate + 1
+    } else {
+        estimate
+    }
+}
+
+// A sum over the weight, to the nearest whole number, a half upwards, by a divisor from `divisor_of` for a
+// weight that is not 0, where the sum is small enough (`quotient-gray`).
 pub fn rounded(sum: u64, by: Divisor) -> u64
     ensures { λ r. ⌜ r ≡ quotient by sum ⌝ }
 {
     let raised = wrapping_add_u64(sum, by.half);
     if by.single {
         raised >> (by.shift % 64)
-    } else if by.weight == 0 {
-        0
     } else {
-        raised / by.weight
+        by_reciprocal(raised, by)
     }
 }
 

@@ -1,11 +1,10 @@
--- `gray::rounding::rounded` meets its contract: by the shift, by a weight of 0, or by the division.
+-- `gray::rounding::rounded` meets its contract: by the shift, or by the reciprocal.
 -- Assumes nothing.
-use mathlib.Core.Path.{sym, ap, ap₂, _∙_}
+use mathlib.Core.Path.{sym, ap, _∙_}
 use mathlib.Core.Bool.{cond}
 use Prim.Native.Nat.{ℕ, _+_, _/_, _%_, _^_}
-use native.Mathlib.Nat.{div-zero}
 use borrow.Author.Needs.{needs}
-use Rattle.gray.specs.Division.{quotient}
+use Rattle.gray.specs.Division.{byReciprocal, quotient}
 use Rattle.gray.proofs.rounding.rounded.Statement.{statement}
 use Rattle.gray.proofs.rounding.rounded.Tie as tie
 
@@ -18,8 +17,8 @@ cast-result c = search needs
 shr-result : tie.Need-shr-result
 shr-result c = search needs
 
-div-result : tie.Need-div-result
-div-result c = search needs
+by-reciprocal-requires : tie.Need-by-reciprocal-requires
+by-reciprocal-requires c κs = search needs
 
 -- the sum and the half, in 64 bits
 abbrev raised : tie.Start → ℕ
@@ -31,22 +30,16 @@ returns c =
     let start = c .before .before .before in
     let by = start .args .by in
     ap (λ x. x / 2 ^ (by .shift % 64)) (c .before .before .wrapping-add-u64 .ensures)
-    ∙ sym (ap (λ b. cond b (raised start / 2 ^ (by .shift % 64)) (raised start / by .weight)) (c .before .if1 .taken))
+    ∙ sym (ap (λ b. cond b (raised start / 2 ^ (by .shift % 64)) (byReciprocal by (raised start))) (c .before .if1 .taken))
 
 returns-2 : tie.Need-returns-2
 unfolding quotient
 returns-2 c =
-    let start = c .before .before .before .before in
+    let start = c .before .before .before in
     let by = start .args .by in
-    sym (ap₂ (λ b w. cond b (raised start / 2 ^ (by .shift % 64)) (raised start / w)) (c .before .before .if1 .left) (c .if2 .taken) ∙ div-zero (raised start))
-
-returns-3 : tie.Need-returns-3
-unfolding quotient
-returns-3 c =
-    let start = c .before .before .before .before .before in
-    let by = start .args .by in
-    ap (λ x. x / by .weight) (c .before .before .before .before .wrapping-add-u64 .ensures)
-    ∙ sym (ap (λ b. cond b (raised start / 2 ^ (by .shift % 64)) (raised start / by .weight)) (c .before .before .before .if1 .left))
+    c .by-reciprocal .ensures
+    ∙ ap (byReciprocal by) (c .before .before .wrapping-add-u64 .ensures)
+    ∙ sym (ap (λ b. cond b (raised start / 2 ^ (by .shift % 64)) (byReciprocal by (raised start))) (c .before .if1 .left))
 
 pub rounded-spec : {M : Type 1} → statement M
 rounded-spec =
@@ -55,7 +48,6 @@ rounded-spec =
     wrapping-add-u64-requires
     cast-result
     shr-result
-    div-result
+    by-reciprocal-requires
     returns
-    returns-2
-    returns-3)
+    returns-2)
