@@ -1,5 +1,5 @@
--- Rounding: that a shift divides by a weight with a single bit set, so that a quotient over an accepted weight is the grey, how large that
--- is, and that the nearest whole number is rounded alike.
+-- Rounding: that a shift divides by a weight with a single bit set and a reciprocal by any other, so that a quotient over an accepted weight
+-- is the grey, how large that is, and that the nearest whole number is rounded alike.
 -- Assumes nothing.
 use mathlib.Core.Path.{_≡_, refl, sym, ap, subst, _∙_}
 use mathlib.Core.Bool.{Bool, true, false, cond}
@@ -96,8 +96,14 @@ module _ (unit w n : ℕ) (positive : 0 < w) (some : 0 < unit) (near : n ≤ uni
       go true up down = sym (div-eq-of-lt-le w (up refl) (omega (arith, add-mul e 1 w, add-mul e 2 w, add-mul (e + 1) 1 w, one-less)))
       go false up down = sym (div-eq-of-lt-le w not-above (down refl))
 
--- a weight that is not 0 and at most 2^44, and a sum of at most a largest grey times it, for which a reciprocal has few enough bits
-module _ (most w s : ℕ) (positive : 0 < w) (light : w ≤ 2 ^ 44) (few : (most + 1) * 2 ^ reciprocalBits ≤ 2 ^ 64) (bounded : s ≤ most * w) where
+-- a largest grey that a reciprocal's bits suit: a sum times a reciprocal fits 64 bits, and no sum is above what stands for 1. 55 bits suit
+-- every largest grey up to 511; for 65,535 at most 48 fit, and suit weights of at most 2^32 in place of 2^44
+pub record Suits (most : ℕ) : Type 0 where
+  pub fits : (most + 1) * 2 ^ reciprocalBits ≤ 2 ^ 64
+  pub near : (most + 1) * 2 ^ 44 ≤ 2 ^ reciprocalBits
+
+-- a weight that is not 0 and at most 2^44, and a sum of at most a largest grey times it
+module _ (most w s : ℕ) (positive : 0 < w) (light : w ≤ 2 ^ 44) (suits : Suits most) (bounded : s ≤ most * w) where
   abbrev raised : ℕ
   raised = s + w / 2
 
@@ -105,9 +111,7 @@ module _ (most w s : ℕ) (positive : 0 < w) (light : w ≤ 2 ^ 44) (few : (most
   raised-less = omega (arith, add-mul most 1 w)
 
   raised-near : raised ≤ 2 ^ reciprocalBits
-  raised-near =
-      let grays : most + 1 ≤ 2 ^ 9 = omega arith in
-      omega (arith, raised-less, mul-le-mul grays light)
+  raised-near = omega (arith, raised-less, mul-le-mul-left (most + 1) light, suits .near)
 
   fits : raised % 2 ^ 64 ≡ raised
   fits = mod-eq-of-lt (omega (arith, raised-near))
@@ -122,7 +126,7 @@ module _ (most w s : ℕ) (positive : 0 < w) (light : w ≤ 2 ^ 44) (few : (most
         mul-lt-mul-of-pos-right raised-less some,
         mul-assoc (most + 1) w r,
         mul-le-mul-left (most + 1) (mul-div-le (2 ^ reciprocalBits) w),
-        few,
+        suits .fits,
       )
 
   second-fits : (scaled (2 ^ reciprocalBits) w raised + 1) * w < 2 ^ 64
@@ -161,10 +165,10 @@ pub divides-own : (w : ℕ) (by : Divisor) → Divides w by → Divides (by .wei
 divides-own w by d = subst (λ v. Divides v by) (sym (own-weight w by d)) d
 
 -- a quotient that is a grey
-pub rounded-gray : (most w : ℕ) (by : Divisor) → Divides w by → (most + 1) * 2 ^ reciprocalBits ≤ 2 ^ 64 → (s q : ℕ) → s ≤ most * w → q ≡ quotient by s → (q ≡ gray w s) × (q ≤ most)
-rounded-gray most w by d few s q bounded e =
-    let is = e ∙ ap (λ (x : Divisor). quotient x s) (d .is) ∙ quotient-gray most w s (d .notZero) (d .light) few bounded in
-    (is, subst (λ x. x ≤ most) (sym is) (gray-most most w s (d .notZero) (d .light) few bounded))
+pub rounded-gray : (most w : ℕ) (by : Divisor) → Divides w by → Suits most → (s q : ℕ) → s ≤ most * w → q ≡ quotient by s → (q ≡ gray w s) × (q ≤ most)
+rounded-gray most w by d suits s q bounded e =
+    let is = e ∙ ap (λ (x : Divisor). quotient x s) (d .is) ∙ quotient-gray most w s (d .notZero) (d .light) suits bounded in
+    (is, subst (λ x. x ≤ most) (sym is) (gray-most most w s (d .notZero) (d .light) suits bounded))
 
 -- the nearest whole number, a half upwards, is rounded as a grey is
 pub nearest-gray : (m d : ℕ) → nearest m d ≡ gray d m

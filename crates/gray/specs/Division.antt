@@ -8,9 +8,7 @@ use lib.Count.{ones, trailingZeros}
 use lib.ListN.{getD}
 use Rattle.gray.specs.declared.rounding.Divisor.{Divisor}
 
--- 2 to the power of these bits stands for 1 in a reciprocal. For greys of at most `most` over weights of at most 2^44 it must be such that
--- (most + 1) * 2 ^ reciprocalBits ≤ 2 ^ 64, so that a sum times a reciprocal fits 64 bits, and (most + 1) * 2 ^ 44 ≤ 2 ^ reciprocalBits,
--- so that an estimate is at most one too small. Both hold for greys of at most 255, and up to 511.
+-- 2 to this power stands for 1 in a reciprocal: the number that a larger grey would change (`Suits` in proofs/Dividing.antt says how)
 abbrev pub reciprocalBits : ℕ
 reciprocalBits = 55
 

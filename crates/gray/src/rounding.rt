@@ -16,7 +16,7 @@ use std::num::wrapping_add_u64;
 // Greys are bytes.
 const LARGEST_GRAY: u64 = 255;
 
-// `reciprocalBits` of `specs/Division.antt`, where it is said what it must be for a largest grey.
+// 2 to this power stands for 1 in a reciprocal (`reciprocalBits`).
 const RECIPROCAL_BITS: u32 = 55;
 
 // A weight to divide by: its half, downwards; 2^55 over it, downwards, or 0 for a weight of 0; and whether
@@ -46,22 +46,18 @@ pub fn divisor_of(weight: u64) -> Divisor
     }
 }
 
-// The quotient by the reciprocal. The estimate is the quotient or one less, so that the next multiple of
-// the weight tells which; it is asked without a branch.
+// The quotient by the reciprocal. The estimate is the quotient or one less, and the next multiple of the
+// weight tells which. The outcome is added, so that a loop has no branch on the sum.
 fn by_reciprocal(raised: u64, by: Divisor) -> u64
     ensures { λ r. ⌜ r ≡ byReciprocal by raised ⌝ }
 {
     let estimate = wrapping_mul_u64(raised, by.reciprocal) >> RECIPROCAL_BITS;
     let next = wrapping_mul_u64(estimate + 1, by.weight);
-    if next <= raised {
-        estimate + 1
-    } else {
-        estimate
-    }
+    estimate + ((next <= raised) as u64)
 }
 
-// A sum over the weight, to the nearest whole number, a half upwards, by a divisor from `divisor_of` for a
-// weight that is not 0, where the sum is small enough (`quotient-gray`).
+// A sum over the weight, to the nearest whole number, a half upwards, by a divisor from `divisor_of`, where
+// the sum is at most 255 times the weight; over a weight of 0 it is 1.
 pub fn rounded(sum: u64, by: Divisor) -> u64
     ensures { λ r. ⌜ r ≡ quotient by sum ⌝ }
 {

@@ -1,11 +1,12 @@
--- `gray::rounding::by_reciprocal` meets its contract, where the next multiple of the weight is not above the number and where it is.
+-- `gray::rounding::by_reciprocal` meets its contract: the two products are the definition's, and the outcome of the test is what it adds.
 -- Assumes nothing.
-use mathlib.Core.Path.{_≡_, sym, ap, _∙_}
-use mathlib.Core.Bool.{cond}
-use Prim.Native.Nat.{ℕ, _+_, _*_, _/_, _%_, _^_}
+use mathlib.Core.Path.{_≡_, refl, ap, _∙_}
+use mathlib.Core.Bool.{Bool, true, false, cond}
+use Prim.Native.Nat.{ℕ, _+_, _*_, _/_, _%_, _^_, _≤_}
+use native.Mathlib.Omega.{arith}
 use borrow.Author.Needs.{needs}
-use borrow.Author.Tests.{le-leb, lt-leb}
 use lib.Dec.{leb}
+use mir.Val.{boolByte}
 use Rattle.gray.specs.Division.{reciprocalBits, estimate, byReciprocal}
 use Rattle.gray.specs.declared.rounding.Divisor.{Divisor}
 use Rattle.gray.proofs.rounding.by_reciprocal.Statement.{statement}
@@ -26,8 +27,20 @@ add-wrapping-mul-u64 c = search needs
 wrapping-mul-u64-requires-2 : tie.Need-wrapping-mul-u64-requires-2
 wrapping-mul-u64-requires-2 c κs = search needs
 
+cast-result : tie.Need-cast-result
+cast-result c = search needs
+
+-- a test as a number, and added
+at-most-one : (b : Bool) → boolByte b ≤ 1
+at-most-one true = omega arith
+at-most-one false = omega arith
+
+one-more : (b : Bool) (e : ℕ) → e + boolByte b ≡ cond b (e + 1) e
+one-more true e = refl
+one-more false e = omega arith
+
 add-result : tie.Need-add-result
-add-result c = search needs
+add-result c = record { fits = omega (arith, at-most-one (leb (c .wrapping-mul-u642 .result) (c .before .before .args .raised))) }
 
 -- by the two products, as the code forms them
 chosen : (by : Divisor) (raised first second : ℕ) → first ≡ raised * by .reciprocal % 2 ^ 64
@@ -40,15 +53,11 @@ chosen by raised first second e f =
 
 returns : tie.Need-returns
 returns c =
-    let products = c .before in
-    let e = products .before .wrapping-mul-u64 .result / 2 ^ reciprocalBits in
-    sym (ap (λ b. cond b (e + 1) e) (le-leb _ _ (c .if1 .taken))) ∙ chosen _ _ _ _ (products .before .wrapping-mul-u64 .ensures) (products .wrapping-mul-u642 .ensures)
-
-returns-2 : tie.Need-returns-2
-returns-2 c =
-    let products = c .before in
-    let e = products .before .wrapping-mul-u64 .result / 2 ^ reciprocalBits in
-    sym (ap (λ b. cond b (e + 1) e) (lt-leb _ _ (c .if1 .left))) ∙ chosen _ _ _ _ (products .before .wrapping-mul-u64 .ensures) (products .wrapping-mul-u642 .ensures)
+    let args = c .before .before .args in
+    let first = c .before .wrapping-mul-u64 in
+    let second = c .wrapping-mul-u642 in
+    one-more (leb (second .result) (args .raised)) (first .result / 2 ^ reciprocalBits)
+    ∙ chosen (args .by) (args .raised) (first .result) (second .result) (first .ensures) (second .ensures)
 
 pub by-reciprocal-spec : {M : Type 1} → statement M
 by-reciprocal-spec =
@@ -59,6 +68,6 @@ by-reciprocal-spec =
     shr-estimate
     add-wrapping-mul-u64
     wrapping-mul-u64-requires-2
+    cast-result
     add-result
-    returns
-    returns-2)
+    returns)
