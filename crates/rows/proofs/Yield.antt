@@ -18,7 +18,8 @@ use Rattle.laws.proofs.Cascades.{cascaded}
 use Rattle.laws.proofs.Exact.{pixel-right, pixel-below, pixel-inside, line, exact-cascaded, exact-small, pixel-small, rows-pos, columns-pos}
 use Rattle.stream.specs.Stages.{Worked, rowStage, columnStage, stages, along, down, worked, entering}
 use Rattle.rows.specs.Runs.{pictureRow}
-use Rattle.rows.proofs.Honest.{Follows, KeptAll, row-keeps, column-keeps, rows-follow, columns-follow, zeros-kept}
+use Rattle.stream.proofs.Following.{Follows, row-keeps, rows-follow}
+use Rattle.rows.proofs.Honest.{KeptAll, column-keeps, columns-follow, zeros-kept}
 
 -- Stages keep the lengths of the row and of their cells.
 module _ (w : ℕ) (size : ℕ → ℕ) (stage : ℕ → List ℕ → List ℕ → Worked)

@@ -2,6 +2,8 @@ pub mod Wrapping
 pub mod Rings
 pub mod Boxes
 pub mod Slots
+pub mod Following
+pub mod Black
 pub mod Left
 pub mod States
 pub mod Loading

@@ -77,6 +77,21 @@ module _ (n : ℕ) (pos : 0 < n) where
     unfolding q r
     parts = div-add-mod' k n
 
+    -- a total covers no value to come, and misses fewer than n
+    pub covered-most : (p : ℕ) → p < n → covered n k p ≤ k
+    covered-most p h =
+        elim (decLt p r) [
+          | yes g ↦ omega (arith, ap (λ j. covered n j p) parts, covered-early q r p below g, parts)
+          | no g ↦ omega (arith, ap (λ j. covered n j p) parts, covered-late q r p below (omega arith), parts)
+        ]
+
+    pub covered-least : (p : ℕ) → p < n → k < covered n k p + n
+    covered-least p h =
+        elim (decLt p r) [
+          | yes g ↦ omega (arith, ap (λ j. covered n j p) parts, covered-early q r p below g, parts, below)
+          | no g ↦ omega (arith, ap (λ j. covered n j p) parts, covered-late q r p below (omega arith), parts, below)
+        ]
+
     -- the place of the next value has the oldest total, and the place before it the latest
     pub covered-oldest : covered n k (k % n) ≡ suc k - n
     unfolding r

@@ -1,8 +1,11 @@
 -- Words for the contracts of private functions; no exported contract uses them. What they tell of sizes: a number, or 0, the grown
--- sides and the needed cells.
+-- sides and the needed cells. And what a row that ends in black places leaves in the cells of the row list.
 use mathlib.Core.Path.{_≡_}
 use mathlib.Core.Bool.{cond}
-use Prim.Native.Nat.{ℕ, _≤_, _<_}
+use mathlib.Core.List.{List, [], _∷_, _++_}
+use Prim.Native.Nat.{ℕ, _*_, _%_, _^_, _≤_, _<_}
+use lib.Dec.{ltb, eqb}
+use lib.ListN.{replicate}
 use Rattle.spec.specs.Recipe.{Recipe}
 use Rattle.spec.specs.Picture.{fullWidth, fullHeight}
 use Rattle.spec.specs.Stream.{State, streamCells}
@@ -31,3 +34,13 @@ pub record Ready (s : State) (out cells : ℕ) : Type 0 where
   pub due : s .emitted < fullHeight (s .recipe) (s .height)
   pub output : out ≡ fullWidth (s .recipe) (s .width)
   pub enough : streamCells (s .recipe) (s .width) ≤ cells
+
+-- What a box of width n leaves in its cells after a row that ends in n - 1 black places, by the row's total: width 2: the last value, which
+-- is black; wider: running totals, each the whole row's.
+unfoldable pub boxKept : ℕ → ℕ → List ℕ
+boxKept n total = cond (ltb n 2) [] (cond (eqb n 2) (0 ∷ []) (replicate n (total % 2 ^ 64)))
+
+-- the boxes of a list, one after the other: a box of width n makes the total n times as large
+unfoldable pub kept : List ℕ → ℕ → List ℕ
+kept [] total = []
+kept (n ∷ ns) total = boxKept n total ++ kept ns (n * total)
