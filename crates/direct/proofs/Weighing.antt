@@ -12,7 +12,7 @@ use lib.Seq.{getD-take, getD-drop, length-take-le}
 use Rattle.spec.specs.Words.{sum, tab}
 use Rattle.spec.specs.Recipe.{Recipe, kernel, order, gain}
 use Rattle.spec.specs.Picture.{Picture, exact, fullWidth, fullHeight, fullRow, full, picture}
-use Rattle.laws.proofs.Sums.{sum-agree, sum-zero, sum-split, sum-grows}
+use Rattle.laws.proofs.Sums.{sum-agree, sum-zero, sum-grows, sum-front}
 use Rattle.laws.proofs.Lists.{tab-agree}
 use Rattle.laws.proofs.Sequences.{behind, behind-within, behind-before, behind-agree}
 use Rattle.laws.proofs.Kernels.{at, length-kernel}
@@ -20,14 +20,6 @@ use Rattle.laws.proofs.Exact.{pixel-right, pixel-below, pixel-inside, line, acr
 use Rattle.laws.proofs.Rows.{length-rows, rows-more}
 use Rattle.laws.proofs.Slices.{Mixed}
 use Rattle.direct.specs.Windows.{through, window, windows, mass}
-
--- terms from m on that are 0 do not count
-sum-front : (f : ℕ → ℕ) (m n : ℕ) → m ≤ n → ((k : ℕ) → m ≤ k → f k ≡ 0) → sum n f ≡ sum m f
-sum-front f m n h z =
-    let e : n ≡ m + (n - m) = omega arith in
-    let past : sum (n - m) (λ k. f (m + k)) ≡ 0 =
-    sum-agree (λ k. f (m + k)) (λ k. 0) (n - m) (λ k l. z (m + k) (omega arith)) ∙ sum-zero (n - m) in
-    ap (λ k. sum k f) e ∙ omega (arith, sum-split f m (n - m), past)
 
 -- A sequence f, no value of which is above most, through the coefficients ks at i.
 module _ (ks : List ℕ) (f : ℕ → ℕ) (i most : ℕ) where
@@ -79,7 +71,7 @@ module _ (ks : List ℕ) (f : ℕ → ℕ) (i most : ℕ) where
             ap (λ n. sum n term) same
         | no h ↦
             sym (sum-front term a (length ks) (omega arith)
-            (λ k l. ap (λ x. at ks k * x) (behind-before f k i (omega arith)) ∙ mul-zero (at ks k)))
+            (λ k l g. ap (λ x. at ks k * x) (behind-before f k i (omega arith)) ∙ mul-zero (at ks k)))
       ]
 
 -- sequences that agree

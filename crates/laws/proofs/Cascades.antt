@@ -8,9 +8,9 @@ use native.Mathlib.Nat.{le-refl, le-trans, mul-zero, zero-mul, one-mul, mul-one,
 use native.Mathlib.Decide.{decLe}
 use native.Mathlib.Omega.{arith}
 use lib.ListN.{List·getD-eq-default}
-use Rattle.spec.specs.Words.{sum}
-use Rattle.spec.specs.Recipe.{kernel, order, weight}
-use Rattle.laws.proofs.Sums.{sum-agree, sum-zero, sum-first, sum-split, sum-swap}
+use Rattle.spec.specs.Words.{sum, total}
+use Rattle.spec.specs.Recipe.{kernel, boxOrder, order, weight}
+use Rattle.laws.proofs.Sums.{sum-agree, sum-zero, sum-first, sum-front, sum-swap}
 use Rattle.laws.proofs.Lists.{first-pos, rest-pos}
 use Rattle.laws.proofs.Sequences.{behind, boxed, behind-zero, behind-within, behind-before, behind-agree}
 use Rattle.laws.proofs.Convolution.{conv, ones, conv-agree, conv-comm, conv-assoc, conv-wide, boxed-conv}
@@ -44,6 +44,25 @@ cascaded-agree s (n ∷ ns) f g k e =
 pub spread-unit : (s : ℕ) (f : ℕ → ℕ) (k : ℕ) → spread s 1 f k ≡ f k
 unfolding spread sum
 spread-unit s f k = zero-add (behind f (0 * s) k) ∙ ap (λ b. behind f b k) (zero-mul s) ∙ behind-zero f k
+
+-- a box where the last n values are 0, and a cascade where the last order ns + 1 are
+pub spread-black : (n : ℕ) (f : ℕ → ℕ) (k : ℕ) → ((j : ℕ) → j ≤ k → k < j + n → f j ≡ 0) → spread 1 n f k ≡ 0
+unfolding boxed
+spread-black n f k z =
+    spread-one n f k
+    ∙ sum-agree (λ a. behind f a k) (λ a. 0) n
+    (λ a h.
+    elim (decLe a k) [
+      | yes g ↦ behind-within f a k g ∙ z (k - a) (omega arith) (omega arith)
+      | no g ↦ behind-before f a k (omega arith)
+    ])
+    ∙ sum-zero n
+
+pub cascaded-black : (ns : List ℕ) (f : ℕ → ℕ) (k : ℕ) → ((j : ℕ) → j ≤ k → k ≤ j + order ns → f j ≡ 0) → cascaded 1 ns f k ≡ 0
+unfolding cascaded order boxOrder total
+cascaded-black [] f k z = z k (omega arith) (omega arith)
+cascaded-black (n ∷ ns) f k z =
+    cascaded-black ns (spread 1 n f) k (λ j h l. spread-black n f j (λ i g m. z i (omega arith) (omega arith)))
 
 -- delays add up
 pub behind-behind : (f : ℕ → ℕ) (a b k : ℕ) → behind (behind f a) b k ≡ behind f (a + b) k
@@ -127,14 +146,9 @@ cascaded-grows s (n ∷ ns) f k h =
 -- a convolution with a sequence that is 0 past m
 pub conv-short : (f g : ℕ → ℕ) (m k : ℕ) → ((a : ℕ) → m < a → f a ≡ 0) → conv f g k ≡ sum (suc m) (λ a. f a * behind g a k)
 conv-short f g m k z =
-    let e : suc (m + k) ≡ suc m + k = omega arith in
-    let past : sum k (λ a. f (suc m + a) * behind g (suc m + a) k) ≡ 0 =
-    sum-agree (λ a. f (suc m + a) * behind g (suc m + a) k) (λ a. 0) k
-    (λ a h. ap (λ x. x * behind g (suc m + a) k) (z (suc m + a) (omega arith)) ∙ zero-mul (behind g (suc m + a) k))
-    ∙ sum-zero k in
     conv-wide f g (m + k) k (omega arith)
-    ∙ ap (λ n. sum n (λ a. f a * behind g a k)) e
-    ∙ omega (arith, sum-split (λ a. f a * behind g a k) (suc m) k, past)
+    ∙ sum-front (λ a. f a * behind g a k) (suc m) (suc (m + k)) (omega arith)
+    (λ a h l. ap (λ x. x * behind g a k) (z a h) ∙ zero-mul (behind g a k))
 
 -- coefficients are 0 past the reach
 pub kernel-short : (ns : List ℕ) → 0 < weight ns → (a : ℕ) → order ns < a → at (kernel ns) a ≡ 0

@@ -2,12 +2,12 @@
 -- Assumes nothing.
 use mathlib.Core.Path.{_≡_, refl, sym, ap, ap₂, _∙_}
 use mathlib.Core.Bool.{Bool, true, false, cond}
-use Prim.Native.Nat.{ℕ, zero, suc, _+_, _-_, _*_, _≤_}
+use Prim.Native.Nat.{ℕ, zero, suc, _-_, _*_, _≤_}
 use native.Mathlib.Nat.{le-refl, zero-add, zero-mul, one-mul, mul-zero, mul-comm, mul-assoc, sub-zero, suc-sub-suc, min-comm}
 use native.Mathlib.Omega.{arith}
 use lib.Dec.{leb, ltb, leb·suc-suc}
 use Rattle.spec.specs.Words.{sum}
-use Rattle.laws.proofs.Sums.{sum-agree, sum-zero, sum-first, sum-scale, sum-split, sum-swap, sum-below}
+use Rattle.laws.proofs.Sums.{sum-agree, sum-first, sum-scale, sum-front, sum-swap, sum-below}
 use Rattle.laws.proofs.Sequences.{behind, boxed, behind-zero, behind-suc, behind-start, behind-within, behind-before}
 
 -- at k the sum of f a times g (k - a) over a of 0 to k
@@ -50,15 +50,10 @@ module _ (f g : ℕ → ℕ) where
   pub conv-wide : (m k : ℕ) → k ≤ m → conv f g k ≡ sum (suc m) (λ a. f a * behind g a k)
   unfolding conv
   conv-wide m k h =
-      let e : suc m ≡ suc k + (m - k) = omega arith in
-      let past : sum (m - k) (λ a. f (suc k + a) * behind g (suc k + a) k) ≡ 0 =
-      sum-agree (λ a. f (suc k + a) * behind g (suc k + a) k) (λ a. 0) (m - k)
-      (λ a l. ap (λ x. f (suc k + a) * x) (behind-before g (suc k + a) k (omega arith)) ∙ mul-zero (f (suc k + a)))
-      ∙ sum-zero (m - k) in
-      let here : sum (suc k) (λ a. f a * g (k - a)) ≡ sum (suc k) (λ a. f a * behind g a k) =
       sum-agree (λ a. f a * g (k - a)) (λ a. f a * behind g a k) (suc k)
-      (λ a l. ap (λ x. f a * x) (sym (behind-within g a k (omega arith)))) in
-      omega (arith, here, past, sum-split (λ a. f a * behind g a k) (suc k) (m - k), ap (λ n. sum n (λ a. f a * behind g a k)) e)
+      (λ a l. ap (λ x. f a * x) (sym (behind-within g a k (omega arith))))
+      ∙ sym (sum-front (λ a. f a * behind g a k) (suc k) (suc m) (omega arith)
+      (λ a l i. ap (λ x. f a * x) (behind-before g a k l) ∙ mul-zero (f a)))
 
   -- a delay goes through a convolution
   pub conv-behind : (a k : ℕ) → conv (behind f a) g k ≡ behind (conv f g) a k

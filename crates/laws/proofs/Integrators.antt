@@ -12,7 +12,7 @@ use native.Mathlib.Omega.{arith}
 use lib.Dec.{ltb}
 use borrow.Author.Tests.{lt-ltb, le-ltb}
 use Rattle.spec.specs.Words.{sum, product, keep, occurs}
-use Rattle.laws.proofs.Sums.{sum-agree, sum-zero, sum-split, sum-rows}
+use Rattle.laws.proofs.Sums.{sum-agree, sum-front, sum-rows}
 use Rattle.laws.proofs.Lists.{first-pos, rest-pos}
 use Rattle.laws.proofs.Sequences.{behind, behind-within, behind-before, behind-agree}
 use Rattle.laws.proofs.Cascades.{spread, spread-agree, spread-twice, spread-comm, slide}
@@ -31,12 +31,7 @@ integrators (u ∷ us) f = integrated u (integrators us f)
 spread-whole : (s m : ℕ) (f : ℕ → ℕ) (k : ℕ) → 0 < s → k < m → spread s m f k ≡ integrated s f k
 unfolding integrated spread
 spread-whole s m f k h l =
-    let e : m ≡ suc k + (m - suc k) = omega arith in
-    let past : sum (m - suc k) (λ a. behind f ((suc k + a) * s) k) ≡ 0 =
-    sum-agree (λ a. behind f ((suc k + a) * s) k) (λ a. 0) (m - suc k)
-    (λ a g. behind-before f ((suc k + a) * s) k (omega (arith, le-mul-of-pos-right (suc k + a) h)))
-    ∙ sum-zero (m - suc k) in
-    omega (arith, past, sum-split (λ a. behind f (a * s) k) (suc k) (m - suc k), ap (λ n. sum n (λ a. behind f (a * s) k)) e)
+    sum-front (λ a. behind f (a * s) k) (suc k) m l (λ a g i. behind-before f (a * s) k (omega (arith, le-mul-of-pos-right a h)))
 
 -- sequences that agree up to k
 pub integrated-agree : (s : ℕ) (f g : ℕ → ℕ) (k : ℕ) → ((j : ℕ) → j ≤ k → f j ≡ g j) → integrated s f k ≡ integrated s g k

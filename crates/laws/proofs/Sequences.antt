@@ -1,14 +1,14 @@
 -- Sequences ℕ → ℕ, 0 before their start, and the box filter on them.
 -- Assumes nothing.
-use mathlib.Core.Path.{_≡_, refl, ap}
+use mathlib.Core.Path.{_≡_, refl, sym, ap, _∙_}
 use mathlib.Core.Bool.{cond}
 use Prim.Native.Nat.{ℕ, zero, suc, _+_, _-_, _*_, _≤_, _<_}
-use native.Mathlib.Nat.{zero-add, le-refl, le-of-eq, suc-sub-suc, sub-zero, zero-mul, suc-mul}
+use native.Mathlib.Nat.{zero-add, suc-sub-suc, sub-zero, zero-sub, zero-mul, suc-mul}
 use native.Mathlib.Omega.{arith}
 use lib.Dec.{leb, leb·suc-suc, leb·suc-zero, leb·zero}
 use borrow.Author.Tests.{le-leb, lt-leb}
 use Rattle.spec.specs.Words.{sum}
-use Rattle.laws.proofs.Sums.{sum-agree, sum-zero, sum-add, sum-first}
+use Rattle.laws.proofs.Sums.{sum-agree, sum-zero, sum-add, sum-first, sum-grows, sum-front}
 
 -- f, a places earlier: f (k - a), and 0 where that is before the start
 unfoldable pub behind : (ℕ → ℕ) → ℕ → ℕ → ℕ
@@ -69,11 +69,11 @@ module _ (f : ℕ → ℕ) where
   boxed-running zero k = omega (arith, behind-zero (running f) k)
   boxed-running (suc n) k = omega (arith, boxed-running n k, running-step n k)
 
-  -- a delayed sequence adds up to no more
-  behind-sum : (a m : ℕ) → sum m (behind f a) ≤ sum m f
+  -- a delayed sequence adds up to what has come in
+  behind-sum : (a m : ℕ) → sum m (behind f a) ≡ sum (m - a) f
   unfolding sum
-  behind-sum zero m = le-of-eq (sum-agree (behind f 0) f m (λ k h. behind-zero f k))
-  behind-sum (suc a) zero = le-refl 0
+  behind-sum zero m = sum-agree (behind f 0) f m (λ k h. behind-zero f k) ∙ ap (λ k. sum k f) (sym (sub-zero m))
+  behind-sum (suc a) zero = ap (λ k. sum k f) (sym (zero-sub (suc a)))
   behind-sum (suc a) (suc m) =
       omega (
         arith,
@@ -81,6 +81,7 @@ module _ (f : ℕ → ℕ) where
         behind-start f a,
         sum-agree (λ k. behind f (suc a) (suc k)) (behind f a) m (λ k h. behind-suc f a k),
         behind-sum a m,
+        ap (λ k. sum k f) (suc-sub-suc m a),
       )
 
   -- a box filter of width n adds up to n times as much at most
@@ -88,7 +89,28 @@ module _ (f : ℕ → ℕ) where
   unfolding boxed sum
   boxed-sum zero m = omega (arith, sum-zero m, zero-mul (sum m f))
   boxed-sum (suc n) m =
-      omega (arith, sum-add (boxed n f) (behind f n) m, boxed-sum n m, behind-sum n m, suc-mul n (sum m f))
+      omega (
+        arith,
+        sum-add (boxed n f) (behind f n) m,
+        boxed-sum n m,
+        behind-sum n m,
+        sum-grows f (m - n) m (omega arith),
+        suc-mul n (sum m f),
+      )
+
+  -- and to n times as much where the last n - 1 values are 0
+  pub boxed-whole : (n m : ℕ) → ((k : ℕ) → k < m → m < k + n → f k ≡ 0) → sum m (boxed n f) ≡ n * sum m f
+  unfolding boxed sum
+  boxed-whole zero m z = omega (arith, sum-zero m, zero-mul (sum m f))
+  boxed-whole (suc n) m z =
+      omega (
+        arith,
+        sum-add (boxed n f) (behind f n) m,
+        boxed-whole n m (λ k h l. z k h (omega arith)),
+        behind-sum n m,
+        sum-front f (m - n) m (omega arith) (λ k h l. z k l (omega arith)),
+        suc-mul n (sum m f),
+      )
 
 -- sequences that agree up to k
 module _ (f g : ℕ → ℕ) (k : ℕ) (e : (j : ℕ) → j ≤ k → f j ≡ g j) where

@@ -53,6 +53,18 @@ module _ (f : ℕ → ℕ) where
       let e : n ≡ m + (n - m) = omega arith in
       omega (arith, ap (λ k. sum k f) e, sum-split m (n - m))
 
+  -- terms from m on that are 0 do not count
+  pub sum-front : (m n : ℕ) → m ≤ n → ((k : ℕ) → m ≤ k → k < n → f k ≡ 0) → sum n f ≡ sum m f
+  unfolding sum
+  sum-front m zero h z = let e : m ≡ 0 = omega arith in sym (ap (λ k. sum k f) e)
+  sum-front m (suc n) h z =
+      elim (decLt n m) [
+        | yes g ↦ let e : m ≡ suc n = omega arith in sym (ap (λ k. sum k f) e)
+        | no g ↦
+            let l : m ≤ n = omega arith in
+            omega (arith, sum-front m n l (λ k i j. z k i (omega arith)), z n l (omega arith))
+      ]
+
   -- only the terms below n count
   pub sum-below : (m n : ℕ) → sum m (λ k. cond (ltb k n) (f k) 0) ≡ sum (min m n) f
   unfolding sum

@@ -2,91 +2,90 @@
 -- Assumes nothing.
 use mathlib.Core.Path.{_≡_, refl, sym, ap, ap₂, _∙_}
 use mathlib.Core.List.{List, [], _∷_, _++_}
-use mathlib.Core.Logic.{_⊎_, inl, inr}
-use Prim.Native.Nat.{ℕ, zero, suc, _+_, _-_, _*_, _%_, _^_, _≤_, _<_}
-use native.Mathlib.Nat.{mul-zero, sub-zero, zero-sub, suc-mul, zero-mul}
+use mathlib.Core.Logic.{_⊎_, inl, inr, ⊎-elim}
+use Prim.Native.Nat.{ℕ, suc, _+_, _-_, _*_, _%_, _^_, _≤_, _<_}
+use native.Mathlib.Nat.{mul-zero}
 use native.Mathlib.Decide.{decLt}
 use native.Mathlib.Omega.{arith}
-use lib.ListN.{length, getD, take, drop, replicate, length-drop, replicate-append-replicate, List·getD-eq-default}
+use lib.ListN.{length, getD, take, drop, replicate, length-append, length-drop, length-replicate, replicate-append-replicate, List·getD-eq-default}
 use lib.Seq.{length-take-le}
 use borrow.Author.Tests.{lt-ltb, le-ltb, ne-eqb}
 use Rattle.spec.specs.Words.{sum, tab, total}
 use Rattle.spec.specs.Recipe.{boxOrder, order, weight}
 use Rattle.spec.specs.Stream.{boxCells, cascadeCells}
-use Rattle.laws.proofs.Sums.{sum-agree, sum-zero, sum-add, sum-first, sum-split}
+use Rattle.laws.proofs.Sums.{sum-agree, sum-zero, sum-front}
 use Rattle.laws.proofs.Lists.{length-tab, getD-tab, tab-agree, tab-replicate, first-pos, rest-pos}
-use Rattle.laws.proofs.Sequences.{behind, boxed, behind-zero, behind-start, behind-suc, behind-within, behind-before}
+use Rattle.laws.proofs.Sequences.{boxed, boxed-whole}
 use Rattle.laws.proofs.Kernels.{at, holds-tab}
-use Rattle.laws.proofs.Cascades.{spread, cascaded, spread-one}
+use Rattle.laws.proofs.Cascades.{spread, cascaded, spread-one, spread-black, cascaded-black}
 use Rattle.stream.specs.Stages.{Worked, covered, rowStage, stages}
 use Rattle.stream.specs.Private.{boxKept, kept}
+use Rattle.stream.proofs.Wrapping.{times-modulo}
 use Rattle.stream.proofs.Rings.{covered-most, covered-least}
 use Rattle.stream.proofs.Boxes.{ring, row-one, row-two, row-wide}
 use Rattle.stream.proofs.Loading.{black}
 use Rattle.stream.proofs.Following.{Follows, widths-are, row-follows, rows-follow, sum-modulo}
 
--- ---- laws
+-- ---- the cells that are left, by the total of the row
 
-module _ (f : ℕ → ℕ) where
-  -- terms of 0 at the end
-  pub sum-short : (m n : ℕ) → m ≤ n → ((k : ℕ) → m ≤ k → k < n → f k ≡ 0) → sum n f ≡ sum m f
-  sum-short m n h z =
-      let e : n ≡ m + (n - m) = omega arith in
-      let past : sum (n - m) (λ k. f (m + k)) ≡ 0 =
-      sum-agree (λ k. f (m + k)) (λ k. 0) (n - m) (λ k l. z (m + k) (omega arith) (omega arith)) ∙ sum-zero (n - m) in
-      omega (arith, ap (λ k. sum k f) e, sum-split f m (n - m))
+-- by the width of a box
+module _ (n : ℕ) where
+  kept-one : n < 2 → (t : ℕ) → boxKept n t ≡ []
+  unfolding boxKept
+  kept-one h t = rw (lt-ltb n 2 h) refl
 
-  -- a delayed sequence adds up to what came in
-  behind-sum : (a m : ℕ) → sum m (behind f a) ≡ sum (m - a) f
-  unfolding sum
-  behind-sum zero m = sum-agree (behind f 0) f m (λ k h. behind-zero f k) ∙ ap (λ k. sum k f) (sym (sub-zero m))
-  behind-sum (suc a) zero = ap (λ k. sum k f) (sym (zero-sub (suc a)))
-  behind-sum (suc a) (suc m) =
-      let e : suc m - suc a ≡ m - a = omega arith in
-      omega (
-        arith,
-        sum-first (behind f (suc a)) m,
-        behind-start f a,
-        sum-agree (λ k. behind f (suc a) (suc k)) (behind f a) m (λ k h. behind-suc f a k),
-        behind-sum a m,
-        ap (λ k. sum k f) e,
-      )
+  kept-two : n ≡ 2 → (t : ℕ) → boxKept n t ≡ 0 ∷ []
+  unfolding boxKept
+  kept-two e t = rw e refl
 
-  -- and to n times as much where the last n - 1 of the values are 0
-  pub boxed-whole : (n m : ℕ) → ((k : ℕ) → k < m → m < k + n → f k ≡ 0) → sum m (boxed n f) ≡ n * sum m f
-  unfolding boxed sum
-  boxed-whole zero m z = omega (arith, sum-zero m, zero-mul (sum m f))
-  boxed-whole (suc n) m z =
-      omega (
-        arith,
-        sum-add (boxed n f) (behind f n) m,
-        boxed-whole n m (λ k h l. z k h (omega arith)),
-        behind-sum n m,
-        sum-short (m - n) m (omega arith) (λ k h l. z k l (omega arith)),
-        suc-mul n (sum m f),
-      )
+  kept-wide : 2 < n → (t : ℕ) → boxKept n t ≡ replicate n (t % 2 ^ 64)
+  unfolding boxKept
+  kept-wide h t = rw (le-ltb n 2 (omega arith), ne-eqb n 2 (λ e. omega arith)) refl
 
--- a box over values of 0, and a cascade
-pub spread-black : (n : ℕ) (f : ℕ → ℕ) (k : ℕ) → ((j : ℕ) → j ≤ k → k < j + n → f j ≡ 0) → spread 1 n f k ≡ 0
-unfolding boxed
-spread-black n f k z =
-    spread-one n f k
-    ∙ sum-agree (λ a. behind f a k) (λ a. 0) n
-    (λ a h.
-    elim (decLt k a) [
-      | yes g ↦ behind-before f a k g
-      | no g ↦ behind-within f a k (omega arith) ∙ z (k - a) (omega arith) (omega arith)
-    ])
-    ∙ sum-zero n
+  -- the total counts modulo 2^64, and not at all where the box is not wide
+  box-agree : (t u : ℕ) → (2 < n → t % 2 ^ 64 ≡ u % 2 ^ 64) → boxKept n t ≡ boxKept n u
+  box-agree t u e =
+      ⊎-elim (λ h. kept-one h t ∙ sym (kept-one h u))
+      (⊎-elim (λ d. kept-two d t ∙ sym (kept-two d u)) (λ h. kept-wide h t ∙ ap (replicate n) (e h) ∙ sym (kept-wide h u)))
+      (widths-are n)
 
-pub cascaded-black : (ns : List ℕ) (f : ℕ → ℕ) (k : ℕ) → ((j : ℕ) → j ≤ k → k ≤ j + order ns → f j ≡ 0) → cascaded 1 ns f k ≡ 0
-unfolding cascaded order boxOrder total
-cascaded-black [] f k z = z k (omega arith) (omega arith)
-cascaded-black (n ∷ ns) f k z =
-    cascaded-black ns (spread 1 n f) k (λ j h l. spread-black n f j (λ i g m. z i (omega arith) (omega arith)))
+  box-black : boxKept n 0 ≡ replicate (boxCells n) 0
+  unfolding boxKept boxCells
+  box-black =
+      ⊎-elim (λ h. rw (lt-ltb n 2 h) refl)
+      (⊎-elim (λ d. rw d refl) (λ h. rw (le-ltb n 2 (omega arith), ne-eqb n 2 (λ d. omega arith)) refl))
+      (widths-are n)
+
+  length-box : (t : ℕ) → length (boxKept n t) ≡ boxCells n
+  unfolding boxKept boxCells
+  length-box t =
+      ⊎-elim (λ h. rw (lt-ltb n 2 h) refl)
+      (⊎-elim (λ d. rw d refl) (λ h. rw (le-ltb n 2 (omega arith), ne-eqb n 2 (λ d. omega arith)) (length-replicate n (t % 2 ^ 64))))
+      (widths-are n)
+
+-- as many cells as the list has
+pub length-kept : (ns : List ℕ) (t : ℕ) → length (kept ns t) ≡ cascadeCells ns
+unfolding kept cascadeCells total
+length-kept [] t = refl
+length-kept (n ∷ ns) t =
+    length-append (boxKept n t) (kept ns (n * t)) ∙ ap₂ _+_ (length-box n t) (length-kept ns (n * t))
+
+-- the total counts modulo 2^64, and not at all where no box is wide
+pub kept-modulo : (ns : List ℕ) (t u : ℕ) → t % 2 ^ 64 ≡ u % 2 ^ 64 → kept ns t ≡ kept ns u
+unfolding kept
+kept-modulo [] t u e = refl
+kept-modulo (n ∷ ns) t u e = ap₂ _++_ (box-agree n t u (λ h. e)) (kept-modulo ns (n * t) (n * u) (times-modulo n t u e))
+
+pub kept-narrow : (ns : List ℕ) (t u : ℕ) → ((i : ℕ) → i < length ns → getD ns i 0 ≤ 2) → kept ns t ≡ kept ns u
+unfolding kept
+kept-narrow [] t u h = refl
+kept-narrow (n ∷ ns) t u h =
+    let two : n ≤ 2 = h 0 (omega arith) in
+    ap₂ _++_ (box-agree n t u (λ l. absurd (omega arith))) (kept-narrow ns (n * t) (n * u) (λ i l. h (suc i) (omega arith)))
 
 -- ---- one stage
 
+-- no cells
 none : (xs : List ℕ) → length xs ≡ 0 → xs ≡ []
 none [] e = refl
 none (x ∷ xs) e = absurd (omega arith)
@@ -101,7 +100,7 @@ module _ (w : ℕ) (g : ℕ → ℕ) (row : List ℕ) (f : Follows w g row) wher
   total-black c r h l b =
       ap (λ x. x % 2 ^ 64) (sum-agree (at row) (λ k. g k % 2 ^ 64) c (λ k i. f .values k (omega arith)))
       ∙ sum-modulo g c
-      ∙ ap (λ x. x % 2 ^ 64) (sym (sum-short g c w h (λ k i u. b k u (omega arith))))
+      ∙ ap (λ x. x % 2 ^ 64) (sym (sum-front g c w h (λ k i u. b k u (omega arith))))
 
   -- the last value
   last-black : (r : ℕ) → 0 < r → Black w r g → getD row (length row - 1) 0 ≡ 0
@@ -118,24 +117,25 @@ module _ (w : ℕ) (g : ℕ → ℕ) (row : List ℕ) (f : Follows w g row) wher
 
   -- what the stage of one width leaves
   stage-kept : (n : ℕ) (own : List ℕ) → length own ≡ boxCells n → Black w (boxOrder n) g → rowStage n row own .cells ≡ boxKept n (sum w g)
-  unfolding boxOrder boxKept boxCells ring
+  unfolding boxOrder boxCells ring
   stage-kept n own s b = go (widths-are n)
     where
       go : (n < 2) ⊎ ((n ≡ 2) ⊎ (2 < n)) → rowStage n row own .cells ≡ boxKept n (sum w g)
       go (inl h) =
           let e = rw (lt-ltb n 2 h) at s in
-          ap (λ (x : Worked). x .cells) (row-one n row own h) ∙ rw (lt-ltb n 2 h) (none own e)
+          ap (λ (x : Worked). x .cells) (row-one n row own h) ∙ none own e ∙ sym (kept-one n h (sum w g))
       go (inr (inl u)) =
           ap (λ (x : Worked). x .cells) (row-two n row own u)
-          ∙ rw u (ap (λ x. x ∷ []) (last-black (n - 1) (omega arith) b))
+          ∙ ap (λ x. x ∷ []) (last-black (n - 1) (omega arith) b)
+          ∙ sym (kept-two n u (sum w g))
       go (inr (inr h)) =
           ap (λ (x : Worked). x .cells) (row-wide n row own h)
-          ∙ rw (le-ltb n 2 (omega arith), ne-eqb n 2 (λ e. omega arith))
-          (tab-agree n (λ p. sum (covered n (length row) p) (at row) % 2 ^ 64) (λ p. sum w g % 2 ^ 64)
+          ∙ tab-agree n (λ p. sum (covered n (length row) p) (at row) % 2 ^ 64) (λ p. sum w g % 2 ^ 64)
           (λ p l.
           total-black (covered n (length row) p) (n - 1) (omega (arith, covered-most n (omega arith) (length row) p l, f .wide))
           (omega (arith, covered-least n (omega arith) (length row) p l, f .wide)) b)
-          ∙ tab-replicate n (sum w g % 2 ^ 64))
+          ∙ tab-replicate n (sum w g % 2 ^ 64)
+          ∙ sym (kept-wide n h (sum w g))
 
 -- ---- the row list
 
@@ -159,6 +159,7 @@ rows-kept w (n ∷ ns) g row own p s f b =
 -- the pixels of a row, and black places after them
 module _ (w : ℕ) (ns pixels own : List ℕ) (pos : 0 < weight ns) (size : length own ≡ cascadeCells ns)
     (small : (k : ℕ) → k < length pixels → getD pixels k 0 < 2 ^ 64) where
+  -- all stages of the row list on them
   abbrev made : Worked
   made = stages boxCells rowStage ns (tab w (λ k. getD pixels k 0)) own
 
@@ -193,16 +194,11 @@ module _ (w : ℕ) (ns pixels own : List ℕ) (pos : 0 < weight ns) (size : leng
 
 -- a black row: zeros come out, and zeros are left
 kept-black : (ns : List ℕ) → kept ns 0 ≡ replicate (cascadeCells ns) 0
-unfolding kept boxKept cascadeCells boxCells total
+unfolding kept cascadeCells total
 kept-black [] = refl
 kept-black (n ∷ ns) =
-    ap₂ _++_ (go (widths-are n)) (ap (kept ns) (mul-zero n) ∙ kept-black ns)
+    ap₂ _++_ (box-black n) (ap (kept ns) (mul-zero n) ∙ kept-black ns)
     ∙ replicate-append-replicate (boxCells n) (cascadeCells ns) 0
-  where
-    go : (n < 2) ⊎ ((n ≡ 2) ⊎ (2 < n)) → boxKept n 0 ≡ replicate (boxCells n) 0
-    go (inl h) = rw (lt-ltb n 2 h) refl
-    go (inr (inl u)) = rw u refl
-    go (inr (inr h)) = rw (le-ltb n 2 (omega arith), ne-eqb n 2 (λ e. omega arith)) refl
 
 pub black-row : (w : ℕ) (ns own : List ℕ) → 0 < weight ns → length own ≡ cascadeCells ns
     → (stages boxCells rowStage ns (replicate w 0) own .row ≡ replicate w 0)
