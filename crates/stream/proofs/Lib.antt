@@ -5,5 +5,6 @@ pub mod Slots
 pub mod Following
 pub mod Black
 pub mod Left
+pub mod Kept
 pub mod States
 pub mod Loading

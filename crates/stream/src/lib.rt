@@ -2,6 +2,7 @@
 // running state by value and lent cells.
 mod calls;
 mod cascades;
+mod keeping;
 mod sizes;
 mod stages;
 
