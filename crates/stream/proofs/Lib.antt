@@ -4,6 +4,7 @@ pub mod Boxes
 pub mod Slots
 pub mod Following
 pub mod Black
+pub mod RowList
 pub mod Left
 pub mod Kept
 pub mod States

@@ -1,19 +1,18 @@
 // The calls of the one pass, and the state that goes from one to the next.
 ghost use mathlib.Core.Path.{_≡_};
-ghost use mathlib.Core.Bool.{cond};
 ghost use mathlib.Core.List.{[], _∷_};
 ghost use Prim.Native.Nat.{_≤_};
-ghost use lib.Dec.{ltb};
-ghost use lib.ListN.{length, getD};
-ghost use Rattle.spec.specs.Words.{tab};
+ghost use lib.ListN.{length};
+ghost use Rattle.spec.specs.Recipe.{recipe};
 ghost use Rattle.spec.specs.Refusals.{check, first, otherOutput, tooFewCells, rowChecks, drainChecks};
 ghost use Rattle.stream.specs.Calls.{stateOf, stateAt, began, zeros, start as startOf, called, steps, push as pushOf, drain as drainOf};
 ghost use Rattle.stream.specs.Private.{Gauged, Ready};
+ghost use Rattle.stream.specs.Stages.{entering};
 use crate::cascades::work;
+use crate::keeping::fill;
 use crate::sizes::Sizes;
 use crate::sizes::no_sizes;
 use crate::sizes::sizes_of;
-use crate::stages::clear;
 use filter::no_filter;
 use spec::Filter;
 
@@ -102,35 +101,6 @@ fn drain_refusal(state: State, out: usize, cells: usize) -> u8
     buffer_refusal(sizes, out, cells)
 }
 
-// A byte as a cell.
-fn wide(x: u8) -> u64
-    ensures { λ r. ⌜ r ≡ x ⌝ }
-{
-    x as u64
-}
-
-// The pixels at the front of a row.
-fn copy(pixels: &[u8], row: &mut [u64])
-    requires { ⌜ length (now pixels) ≤ length (now row) ⌝ }
-    ensures { λ r. let xs = now (pixels .entry) in let old = now (row .entry) in
-        ⌜ now (row .exit) ≡ tab (length old) (λ k. cond (ltb k (length xs)) (getD xs k 0) (getD old k 0)) ⌝ }
-{
-    for k in 0..pixels.len() {
-        row[k] = wide(pixels[k]);
-    }
-}
-
-// The pixels, and black places after them.
-fn load(pixels: &[u8], row: &mut [u64])
-    requires { ⌜ length (now pixels) ≤ length (now row) ⌝ }
-    ensures { λ r. ⌜ now (row .exit) ≡ tab (length (now (row .entry))) (λ k. getD (now (pixels .entry)) k 0) ⌝ }
-{
-    copy(pixels, row);
-    let from = pixels.len();
-    let to = row.len();
-    clear(&mut row[from..to]);
-}
-
 // The state of a recipe over a picture with these sides, with so many rows yielded. Any numbers make a
 // state; 9 refuses what is none.
 pub fn state_at(filter: Filter, width: usize, height: usize, emitted: usize) -> State
@@ -169,7 +139,7 @@ pub fn start(filter: Filter, width: usize, height: usize, cells: &mut [u64]) -> 
         return no_start(8);
     }
     let z: usize = 0;
-    clear(&mut cells[z..needed]);
+    fill(0, &mut cells[z..needed]);
     Started {
         refusal: 0,
         state: state_at(filter, width, height, 0),
@@ -187,13 +157,13 @@ fn no_step(number: u8, state: State) -> Stepped
     }
 }
 
-// All stages on the row in `out`, and the next state.
-fn step(state: State, out: &mut [u64], cells: &mut [u64]) -> Stepped
-    requires { ⌜ Ready (stateOf state) (length (now out)) (length (now cells)) ⌝ }
-    ensures { λ r. ⌜ called r (now (out .exit)) (now (cells .exit)) ≡ steps state (now (out .entry)) (now (cells .entry)) ⌝ }
+// All stages on the pixels given and black places after them, and the next state.
+fn step(state: State, pixels: &[u8], out: &mut [u64], cells: &mut [u64]) -> Stepped
+    requires { ⌜ Ready (stateOf state) (length (now out)) (length (now cells)) × (length (now pixels) ≤ state .width) ⌝ }
+    ensures { λ r. ⌜ called r (now (out .exit)) (now (cells .exit)) ≡ steps state (entering (recipe (state .filter)) (state .width) (now (pixels .entry))) (now (cells .entry)) ⌝ }
 {
     let filter = state.filter;
-    let count = work(filter, state.emitted, out, cells);
+    let count = work(filter, state.emitted, pixels, out, cells);
     Stepped {
         refusal: 0,
         state: state_at(filter, state.width, state.height, state.emitted + 1),
@@ -209,8 +179,7 @@ pub fn push(state: State, pixels: &[u8], out: &mut [u64], cells: &mut [u64]) -> 
     if number != 0 {
         return no_step(number, state);
     }
-    load(pixels, out);
-    step(state, out, cells)
+    step(state, pixels, out, cells)
 }
 
 // Yields the next grown row below the picture, as if a black row had come. Refused by 9, 10, 7, 8.
@@ -221,6 +190,7 @@ pub fn drain(state: State, out: &mut [u64], cells: &mut [u64]) -> Stepped
     if number != 0 {
         return no_step(number, state);
     }
-    clear(out);
-    step(state, out, cells)
+    let black = [0u8; 1];
+    let z: usize = 0;
+    step(state, &black[z..z], out, cells)
 }

@@ -10,6 +10,7 @@ use mathlib.Core.Path.{sym, ap, subst, _∙_}
 use Rattle.spec.specs.Words.{tab}
 use mathlib.Core.List.{[]}
 use Prim.Native.Nat.{ℕ}
+use native.Mathlib.Omega.{arith}
 use borrow.Author.Needs.{needs}
 use lib.ListN.{length, getD}
 use Rattle.stream.proofs.calls.drain.Statement.{statement}
@@ -31,9 +32,6 @@ returns c =
     (λ i. record { number = (none .0 ∙ sym e) i; state = none .1 i; count = none .2 i; out = a .out .now; cells = a .cells .now })
     ∙ sym (lent-refused _ _ _ _ e (c .before .if1 .taken))
 
-clear-requires : tie.Need-clear-requires
-clear-requires c κs = search needs
-
 -- what is known of an accepted call
 accepted : (c : tie.Else1) → let a = c .before .before .before .before .args in
     Ready (stateOf (a .state)) (length (a .out .now)) (length (a .cells .now))
@@ -41,11 +39,17 @@ accepted c =
     let a = c .before .before .before .before .args in
     drain-ready (stateOf (a .state)) _ _ (sym (c .before .drain-refusal .ensures) ∙ c .if1 .left) .0
 
+sub-step : tie.Need-sub-step
+sub-step c = search needs
+
+part-step-start : tie.Need-part-step-start
+part-step-start c = search needs
+
+part-step-end : tie.Need-part-step-end
+part-step-end c = search needs
+
 step-requires : tie.Need-step-requires
-step-requires c κs =
-    let e = c .before .before .before .before .before .before in
-    let a = e .before .before .before .before .args in
-    subst (λ n. Ready (stateOf (a .state)) n (length (a .cells .now))) (sym (c .before .before .before .before .clear .kept .0)) (accepted e)
+step-requires c κs = (accepted (c .before .before .before .before), omega arith)
 
 same-length : tie.Need-same-length
 same-length c = search needs
@@ -54,14 +58,10 @@ same-length-2 : tie.Need-same-length-2
 same-length-2 c = search needs
 
 returns-2 : tie.Need-returns-2
-unfolding drain answers entering stateOf
+unfolding drain answers stateOf
 returns-2 c =
-    let e = c .before .before .before .before .before .before .before .before .before .before .before in
-    let a = e .before .before .before .before .args in
-    let cleared = c .before .before .before .before .before .before .before .before .before .clear .ensures in
-    c .before .before .before .before .step .ensures
-    ∙ ap (λ v. steps (a .state) v (a .cells .now)) (cleared ∙ black (length (a .out .now)) ∙ ap (λ n. tab n (λ k. getD {A = ℕ} [] k 0)) (accepted e .output))
-    ∙ sym (lent-accepted _ _ _ (sym (e .before .drain-refusal .ensures) ∙ e .if1 .left))
+    let e = c .before .before .before .before .before .before .before .before .before in
+    c .before .before .before .before .step .ensures ∙ sym (lent-accepted _ _ _ (sym (e .before .drain-refusal .ensures) ∙ e .if1 .left))
 
 pub drain-spec : {M : Type 1} → statement M
 drain-spec =
@@ -70,7 +70,9 @@ drain-spec =
     drain-refusal-requires
     no-step-requires
     returns
-    clear-requires
+    sub-step
+    part-step-start
+    part-step-end
     step-requires
     same-length
     same-length-2

@@ -39,17 +39,10 @@ accepted c =
     let r = row-ready (stateOf (a .state)) _ _ _ (sym (c .before .row-refusal .ensures) ∙ c .if1 .left) in
     (r .0, r .1)
 
-load-requires : tie.Need-load-requires
-unfolding stateOf fullWidth
-load-requires c κs =
-    let k = accepted (c .before) in
-    omega (arith, k .1, k .0 .output)
-
 step-requires : tie.Need-step-requires
 step-requires c κs =
-    let e = c .before .before .before .before .before .before in
-    let a = e .before .before .before .before .before .args in
-    subst (λ n. Ready (stateOf (a .state)) n (length (a .cells .now))) (sym (c .before .before .before .before .load .kept .1 .0)) (accepted e .0)
+    let k = accepted (c .before .before) in
+    (k .0, omega (arith, k .1))
 
 same-length : tie.Need-same-length
 same-length c = search needs
@@ -58,15 +51,10 @@ same-length-2 : tie.Need-same-length-2
 same-length-2 c = search needs
 
 returns-2 : tie.Need-returns-2
-unfolding push answers entering stateOf
+unfolding push answers stateOf
 returns-2 c =
-    let e = c .before .before .before .before .before .before .before .before .before .before .before in
-    let a = e .before .before .before .before .before .args in
-    let loaded = c .before .before .before .before .before .before .before .before .before .load .ensures in
-    let xs = a .pixels .now in
-    c .before .before .before .before .step .ensures
-    ∙ ap (λ v. steps (a .state) v (a .cells .now)) (loaded ∙ ap (λ n. tab n (λ k. getD xs k 0)) (accepted e .0 .output))
-    ∙ sym (lent-accepted _ _ _ (sym (e .before .row-refusal .ensures) ∙ e .if1 .left))
+    let e = c .before .before .before .before .before .before .before in
+    c .before .before .before .before .step .ensures ∙ sym (lent-accepted _ _ _ (sym (e .before .row-refusal .ensures) ∙ e .if1 .left))
 
 pub push-spec : {M : Type 1} → statement M
 push-spec =
@@ -75,7 +63,6 @@ push-spec =
     row-refusal-requires
     no-step-requires
     returns
-    load-requires
     step-requires
     same-length
     same-length-2

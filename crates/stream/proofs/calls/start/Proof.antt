@@ -53,20 +53,20 @@ returns-2 c =
     let is = eight e ∙ ap (λ b. cond b 8 0) (lt-ltb _ _ (c .before .if2 .taken)) in
     (λ i. record { number = (none .0 ∙ sym is) i; state = none .1 i; cells = cells }) ∙ sym (lent-refused _ _ _ 8 is (λ z. omega arith))
 
-mul-clear : tie.Need-mul-clear
-mul-clear c = search needs
+mul-fill : tie.Need-mul-fill
+mul-fill c = search needs
 
-sub-clear : tie.Need-sub-clear
-sub-clear c = search needs
+sub-fill : tie.Need-sub-fill
+sub-fill c = search needs
 
-part-clear-start : tie.Need-part-clear-start
-part-clear-start c = search needs
+part-fill-start : tie.Need-part-fill-start
+part-fill-start c = search needs
 
-part-clear-end : tie.Need-part-clear-end
-part-clear-end c = search needs
+part-fill-end : tie.Need-part-fill-end
+part-fill-end c = search needs
 
-clear-requires : tie.Need-clear-requires
-clear-requires c κs = search needs
+fill-requires : tie.Need-fill-requires
+fill-requires c κs = search needs
 
 state-at-requires : tie.Need-state-at-requires
 state-at-requires c κs = search needs
@@ -82,7 +82,7 @@ returns-3 c =
     let a = e .before .before .before .args in
     let needed = e .before .sizes-of .ensures .told (e .if1 .left) .cells in
     let is = eight e ∙ ap (λ b. cond b 8 0) (le-ltb _ _ (two .if2 .left)) in
-    let now = cleared (e .before .sizes-of .result .cells) (a .cells .now) _ (two .if2 .left) (c .before .before .before .clear .ensures) ∙ ap (λ n. replicate n 0 ++ drop n (a .cells .now)) needed in
+    let now = cleared (e .before .sizes-of .result .cells) (a .cells .now) _ (two .if2 .left) (c .before .before .before .fill .ensures) ∙ ap (λ n. replicate n 0 ++ drop n (a .cells .now)) needed in
     (λ i. record { number = 0; state = c .state-at .ensures i; cells = now i }) ∙ sym (lent-accepted _ _ _ is)
 
 pub start-spec : {M : Type 1} → statement M
@@ -94,11 +94,11 @@ start-spec =
     returns
     no-start-requires-2
     returns-2
-    mul-clear
-    sub-clear
-    part-clear-start
-    part-clear-end
-    clear-requires
+    mul-fill
+    sub-fill
+    part-fill-start
+    part-fill-end
+    fill-requires
     state-at-requires
     same-length
     returns-3)

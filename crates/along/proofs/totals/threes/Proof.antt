@@ -1,0 +1,43 @@
+-- `along::totals::threes` meets its contract: what is left to do gives what all of it gives.
+-- Assumes nothing.
+use Rattle.along.specs.Private.{repeat, totalled}
+use Rattle.along.proofs.Rows.{repeat-less}
+use mathlib.Core.Path.{_≡_, refl, _∙_}
+use Prim.Native.Nat.{_-_}
+use native.Mathlib.Omega.{arith}
+use borrow.Author.Needs.{needs}
+use lib.ListN.{length}
+use Rattle.along.proofs.totals.threes.Statement.{statement}
+use Rattle.along.proofs.totals.threes.Tie as tie
+
+abbrev Inv-loop : tie.InvT-loop
+Inv-loop count row₀ left₀ row left = (length row ≡ length row₀) × (repeat left totalled row ≡ repeat count totalled row₀)
+
+abbrev μ-loop : tie.MeasureT-loop
+μ-loop count row₀ left₀ row left = left
+
+loop-holds : tie.Need-loop-holds Inv-loop μ-loop
+loop-holds c = (search needs, refl)
+
+three-requires : tie.Need-three-requires Inv-loop μ-loop
+three-requires c κs = search needs
+
+loop-less : tie.Need-loop-less Inv-loop μ-loop
+loop-less c = search needs
+
+loop-again : tie.Need-loop-again Inv-loop μ-loop
+loop-again c =
+    let turn = c .before .before .before .before .before .loop in
+    let did = c .before .before .three in
+    (did .kept .0 ∙ turn .inv .0, repeat-less totalled 3 (turn .left) _ _ _ (omega arith) (did .ensures) (turn .inv .1))
+
+same-length : tie.Need-same-length Inv-loop μ-loop
+same-length c = search needs
+
+returns : tie.Need-returns Inv-loop μ-loop
+returns c = c .before .loop .inv .1
+
+pub threes-spec : {M : Type 1} → statement M
+threes-spec =
+    tie.close
+    (tie.spec Inv-loop μ-loop loop-holds three-requires loop-less loop-again same-length returns)
