@@ -1,4 +1,4 @@
-// One box filter on a row in place, with its own part of the cells: along the row, and down the columns.
+// One box filter down the columns on a row in place, with its own part of the cells.
 ghost use mathlib.Core.Path.{_≡_};
 ghost use mathlib.Core.Bool.{cond};
 ghost use mathlib.Core.List.{[], _∷_};
@@ -11,97 +11,11 @@ ghost use Rattle.spec.specs.Stream.{boxCells, boxCost};
 ghost use Rattle.laws.proofs.Kernels.{at};
 ghost use Rattle.stream.specs.Stages.{minus, covered, rowBoxed, rowStage, columnPair, columnSlot, columnStage};
 
-// All zero.
-pub(crate) fn clear(cells: &mut [u64])
-    ensures { λ r. ⌜ now (cells .exit) ≡ replicate (length (now (cells .entry))) 0 ⌝ }
-{
-    for k in 0..cells.len() {
-        cells[k] = 0;
-    }
-}
-
-// Width 2 along a row: to each value the one before it. The cell is left with the last value; the next
-// row starts from 0 and does not read it.
-fn row_pair(row: &mut [u64], own: &mut [u64])
-    requires { ⌜ (0 < length (now row)) × (length (now own) ≡ 1) ⌝ }
-    ensures { λ r. ⌜ (now (row .exit) ≡ rowBoxed 2 (now (row .entry)))
-        × (now (own .exit) ≡ getD (now (row .entry)) (length (now (row .entry)) - 1) 0 ∷ []) ⌝ }
-{
-    let mut before: u64 = 0;
-    for k in 0..row.len() {
-        let x = row[k];
-        row[k] = std::num::wrapping_add_u64(x, before);
-        before = x;
-    }
-    own[0] = before;
-}
-
 // A difference modulo 2^64.
 fn less(a: u64, b: u64) -> u64
     ensures { λ r. ⌜ r ≡ minus a b ⌝ }
 {
     std::num::wrapping_sub_u64(a, b)
-}
-
-// Once around a ring of running totals, or a part of the way at the end of a row: to each value the
-// total so far, less the total that stood in its place.
-fn lap(part: &mut [u64], own: &mut [u64], total: u64) -> u64
-    requires { ⌜ length (now part) ≤ length (now own) ⌝ }
-    ensures { λ r. let xs = now (part .entry) in let old = now (own .entry) in
-        ⌜ (r ≡ (total + sum (length xs) (at xs)) % 2 ^ 64)
-        × (now (part .exit) ≡ tab (length xs) (λ p. minus ((total + sum (suc p) (at xs)) % 2 ^ 64) (at old p)))
-        × (now (own .exit) ≡ tab (length old) (λ p. cond (ltb p (length xs)) ((total + sum (suc p) (at xs)) % 2 ^ 64) (at old p))) ⌝ }
-{
-    let mut sum = total;
-    for k in 0..part.len() {
-        sum = std::num::wrapping_add_u64(sum, part[k]);
-        part[k] = less(sum, own[k]);
-        own[k] = sum;
-    }
-    sum
-}
-
-// The end of a lap of n places that begins at a place of a row.
-fn lap_end(from: usize, n: usize, end: usize) -> usize
-    requires { ⌜ from ≤ end ⌝ }
-    ensures { λ r. ⌜ r ≡ min (from + n) end ⌝ }
-{
-    if end - from < n { end } else { from + n }
-}
-
-// A width of 3 or more along a row, as many cells as the width.
-fn row_ring(row: &mut [u64], own: &mut [u64])
-    requires { ⌜ 3 ≤ length (now own) ⌝ }
-    ensures { λ r. let xs = now (row .entry) in let n = length (now (own .entry)) in
-        ⌜ (now (row .exit) ≡ rowBoxed n xs) × (now (own .exit) ≡ tab n (λ p. sum (covered n (length xs) p) (at xs) % 2 ^ 64)) ⌝ }
-{
-    clear(own);
-    let n = own.len();
-    let end = row.len();
-    let mut total: u64 = 0;
-    let mut from: usize = 0;
-    while from < end {
-        let to = lap_end(from, n, end);
-        total = lap(&mut row[from..to], own, total);
-        from = to;
-    }
-}
-
-// One stage along a row. Returns its count of additions and subtractions.
-pub(crate) fn row_box(n: u8, row: &mut [u64], own: &mut [u64]) -> u64
-    requires { ⌜ (0 < length (now row)) × (length (now row) ≤ 1279) × (length (now own) ≡ boxCells n) ⌝ }
-    ensures { λ r. let made = rowStage n (now (row .entry)) (now (own .entry)) in
-        ⌜ (r ≡ length (now (row .entry)) * boxCost n) × (now (row .exit) ≡ made .row) × (now (own .exit) ≡ made .cells) ⌝ }
-{
-    if n < 2 {
-        return 0;
-    }
-    if n == 2 {
-        row_pair(row, own);
-        return row.len() as u64;
-    }
-    row_ring(row, own);
-    2 * row.len() as u64
 }
 
 // Width 2 down the columns: to each value the one above it, which the cell keeps.
