@@ -45,7 +45,7 @@ pub spread-unit : (s : ℕ) (f : ℕ → ℕ) (k : ℕ) → spread s 1 f k ≡ f
 unfolding spread sum
 spread-unit s f k = zero-add (behind f (0 * s) k) ∙ ap (λ b. behind f b k) (zero-mul s) ∙ behind-zero f k
 
--- a box where the last n values are 0, and a cascade where the last order ns + 1 are
+-- a box where the last n values are 0
 pub spread-black : (n : ℕ) (f : ℕ → ℕ) (k : ℕ) → ((j : ℕ) → j ≤ k → k < j + n → f j ≡ 0) → spread 1 n f k ≡ 0
 unfolding boxed
 spread-black n f k z =
@@ -57,12 +57,6 @@ spread-black n f k z =
       | no g ↦ behind-before f a k (omega arith)
     ])
     ∙ sum-zero n
-
-pub cascaded-black : (ns : List ℕ) (f : ℕ → ℕ) (k : ℕ) → ((j : ℕ) → j ≤ k → k ≤ j + order ns → f j ≡ 0) → cascaded 1 ns f k ≡ 0
-unfolding cascaded order boxOrder total
-cascaded-black [] f k z = z k (omega arith) (omega arith)
-cascaded-black (n ∷ ns) f k z =
-    cascaded-black ns (spread 1 n f) k (λ j h l. spread-black n f j (λ i g m. z i (omega arith) (omega arith)))
 
 -- delays add up
 pub behind-behind : (f : ℕ → ℕ) (a b k : ℕ) → behind (behind f a) b k ≡ behind f (a + b) k

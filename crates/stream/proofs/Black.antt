@@ -17,13 +17,12 @@ use Rattle.laws.proofs.Sums.{sum-agree, sum-zero, sum-front}
 use Rattle.laws.proofs.Lists.{length-tab, getD-tab, tab-agree, tab-replicate, first-pos, rest-pos}
 use Rattle.laws.proofs.Sequences.{boxed, boxed-whole}
 use Rattle.laws.proofs.Kernels.{at, holds-tab}
-use Rattle.laws.proofs.Cascades.{spread, cascaded, spread-one, spread-black, cascaded-black}
+use Rattle.laws.proofs.Cascades.{spread, cascaded, spread-one, spread-black}
 use Rattle.stream.specs.Stages.{Worked, covered, rowStage, stages}
 use Rattle.stream.specs.Private.{boxKept, kept}
 use Rattle.stream.proofs.Wrapping.{times-modulo}
 use Rattle.stream.proofs.Rings.{covered-most, covered-least}
 use Rattle.stream.proofs.Boxes.{ring, row-one, row-two, row-wide}
-use Rattle.stream.proofs.Loading.{black}
 use Rattle.stream.proofs.Following.{Follows, widths-are, row-follows, rows-follow, sum-modulo}
 
 -- ---- the cells that are left, by the total of the row
@@ -48,27 +47,6 @@ module _ (n : ℕ) where
       ⊎-elim (λ h. kept-one h t ∙ sym (kept-one h u))
       (⊎-elim (λ d. kept-two d t ∙ sym (kept-two d u)) (λ h. kept-wide h t ∙ ap (replicate n) (e h) ∙ sym (kept-wide h u)))
       (widths-are n)
-
-  box-black : boxKept n 0 ≡ replicate (boxCells n) 0
-  unfolding boxKept boxCells
-  box-black =
-      ⊎-elim (λ h. rw (lt-ltb n 2 h) refl)
-      (⊎-elim (λ d. rw d refl) (λ h. rw (le-ltb n 2 (omega arith), ne-eqb n 2 (λ d. omega arith)) refl))
-      (widths-are n)
-
-  length-box : (t : ℕ) → length (boxKept n t) ≡ boxCells n
-  unfolding boxKept boxCells
-  length-box t =
-      ⊎-elim (λ h. rw (lt-ltb n 2 h) refl)
-      (⊎-elim (λ d. rw d refl) (λ h. rw (le-ltb n 2 (omega arith), ne-eqb n 2 (λ d. omega arith)) (length-replicate n (t % 2 ^ 64))))
-      (widths-are n)
-
--- as many cells as the list has
-pub length-kept : (ns : List ℕ) (t : ℕ) → length (kept ns t) ≡ cascadeCells ns
-unfolding kept cascadeCells total
-length-kept [] t = refl
-length-kept (n ∷ ns) t =
-    length-append (boxKept n t) (kept ns (n * t)) ∙ ap₂ _+_ (length-box n t) (length-kept ns (n * t))
 
 -- the total counts modulo 2^64, and not at all where no box is wide
 pub kept-modulo : (ns : List ℕ) (t u : ℕ) → t % 2 ^ 64 ≡ u % 2 ^ 64 → kept ns t ≡ kept ns u
@@ -191,29 +169,3 @@ module _ (w : ℕ) (ns pixels own : List ℕ) (pos : 0 < weight ns) (size : leng
   row-kept fits =
       rows-kept w ns (at pixels) (tab w (λ k. getD pixels k 0)) own pos size entered
       (λ k h l. List·getD-eq-default pixels 0 (omega arith))
-
--- a black row: zeros come out, and zeros are left
-kept-black : (ns : List ℕ) → kept ns 0 ≡ replicate (cascadeCells ns) 0
-unfolding kept cascadeCells total
-kept-black [] = refl
-kept-black (n ∷ ns) =
-    ap₂ _++_ (box-black n) (ap (kept ns) (mul-zero n) ∙ kept-black ns)
-    ∙ replicate-append-replicate (boxCells n) (cascadeCells ns) 0
-
-pub black-row : (w : ℕ) (ns own : List ℕ) → 0 < weight ns → length own ≡ cascadeCells ns
-    → (stages boxCells rowStage ns (replicate w 0) own .row ≡ replicate w 0)
-    × (stages boxCells rowStage ns (replicate w 0) own .cells ≡ replicate (cascadeCells ns) 0)
-unfolding at
-black-row w ns own pos size =
-    let row = tab w (λ k. getD {A = ℕ} [] k 0) in
-    let few : (k : ℕ) → k < 0 → getD {A = ℕ} [] k 0 < 2 ^ 64 = λ k h. absurd (omega arith) in
-    let none : sum w (at []) ≡ 0 = sum-agree (at []) (λ k. 0) w (λ k h. refl) ∙ sum-zero w in (
-      ap (λ r. stages boxCells rowStage ns r own .row) (black w)
-          ∙ row-made w ns [] own pos size few
-          ∙ tab-agree w (λ k. cascaded 1 ns (at []) k % 2 ^ 64) (λ k. 0) (λ k h. ap (λ x. x % 2 ^ 64) (cascaded-black ns (at []) k (λ j i l. refl)))
-          ∙ tab-replicate w 0,
-      ap (λ r. stages boxCells rowStage ns r own .cells) (black w)
-          ∙ rows-kept w ns (at []) row own pos size (entered w ns [] own pos size few) (λ k h l. refl)
-          ∙ ap (kept ns) none
-          ∙ kept-black ns,
-    )

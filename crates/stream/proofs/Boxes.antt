@@ -33,12 +33,6 @@ pub boxed-two : (f : ℕ → ℕ) (k : ℕ) → boxed 2 f k ≡ f k + behind f 1
 unfolding boxed sum
 boxed-two f k = omega (arith, behind-zero f k)
 
--- the only cell
-pub set-only : (xs : List ℕ) (v : ℕ) → length xs ≡ 1 → set xs 0 v ≡ v ∷ []
-set-only [] v e = absurd (omega arith)
-set-only (x ∷ []) v e = refl
-set-only (x ∷ (y ∷ zs)) v e = absurd (omega arith)
-
 -- the sum of n values as the difference of two running totals
 pub boxed-total : (n : ℕ) (f : ℕ → ℕ) (k : ℕ) → 0 < n → boxed n f k + sum (suc k - n) f ≡ sum (suc k) f
 unfolding running sum
@@ -58,57 +52,6 @@ boxed-total n f k pos =
 -- the ring of a stage along the row, after k values of v
 unfoldable pub ring : ℕ → (ℕ → ℕ) → ℕ → List ℕ
 ring n v k = tab n (λ p. sum (covered n k p) v % 2 ^ 64)
-
-pub ring-none : (n : ℕ) (v : ℕ → ℕ) → 0 < n → replicate n 0 ≡ ring n v 0
-unfolding ring sum
-ring-none n v pos =
-    sym (tab-replicate n 0) ∙ tab-agree n (λ p. 0) (λ p. sum (covered n 0 p) v % 2 ^ 64) (λ p h. sym (ap (λ m. sum m v % 2 ^ 64) (covered-none n pos p h)))
-
--- A lap of m values from k on, a whole number of rounds: xs are the values, own the ring and total the total before it.
-module _ (n : ℕ) (pos : 0 < n) (v : ℕ → ℕ) (k m : ℕ) (whole : k % n ≡ 0) (short : m ≤ n) (xs own : List ℕ) (total : ℕ)
-    (values : (p : ℕ) → p < m → at xs p ≡ v (k + p)) (was : own ≡ ring n v k) (so : total ≡ sum k v % 2 ^ 64) where
-  -- the total with j values of the lap
-  lap-total : (j : ℕ) → j ≤ m → (total + sum j (at xs)) % 2 ^ 64 ≡ sum (k + j) v % 2 ^ 64
-  lap-total j h =
-      let e : sum j (at xs) ≡ sum j (λ p. v (k + p)) = sum-agree (at xs) (λ p. v (k + p)) j (λ p l. values p (omega arith)) in
-      omega (arith, e, so, sum-split v k j)
-
-  pub lap-sum : (total + sum m (at xs)) % 2 ^ 64 ≡ sum (k + m) v % 2 ^ 64
-  lap-sum = lap-total m (le-refl m)
-
-  held : (p : ℕ) → p < n → at own p ≡ sum (k + suc p - n) v % 2 ^ 64
-  unfolding at ring
-  held p h =
-      ap (λ l. getD l p 0) was
-      ∙ getD-tab n (λ p. sum (covered n k p) v % 2 ^ 64) p 0 h
-      ∙ ap (λ c. sum c v % 2 ^ 64) (covered-whole n pos k whole p h)
-
-  -- the row: the box filter
-  pub lap-made : (p : ℕ) → p < m → minus ((total + sum (suc p) (at xs)) % 2 ^ 64) (at own p) ≡ boxed n v (k + p) % 2 ^ 64
-  lap-made p h =
-      let e : k + suc p ≡ suc (k + p) = omega arith in
-      ap₂ minus (lap-total (suc p) h ∙ ap (λ j. sum j v % 2 ^ 64) e) (held p (omega arith) ∙ ap (λ j. sum (j - n) v % 2 ^ 64) e)
-      ∙ minus-exact (sum (suc (k + p)) v) (sum (suc (k + p) - n) v) (boxed n v (k + p)) (boxed-total n v (k + p) pos)
-
-  -- the ring
-  pub lap-kept : length xs ≡ m → tab (length own) (λ p. cond (ltb p (length xs)) ((total + sum (suc p) (at xs)) % 2 ^ 64) (at own p)) ≡ ring n v (k + m)
-  unfolding ring
-  lap-kept e =
-      let size : length own ≡ n = ap length was ∙ length-tab n (λ p. sum (covered n k p) v % 2 ^ 64) in
-      let new : ℕ → ℕ = λ p. cond (ltb p (length xs)) ((total + sum (suc p) (at xs)) % 2 ^ 64) (at own p) in
-      ap (λ j. tab j new) size
-      ∙ tab-agree n new (λ p. sum (covered n (k + m) p) v % 2 ^ 64)
-      (λ p h.
-      elim (decLt p m) [
-        | yes g ↦
-            ap (λ b. cond b ((total + sum (suc p) (at xs)) % 2 ^ 64) (at own p)) (lt-ltb p (length xs) (omega arith))
-            ∙ lap-total (suc p) g
-            ∙ ap (λ c. sum c v % 2 ^ 64) (sym (lap-early n pos k whole m p short g))
-        | no g ↦
-            ap (λ b. cond b ((total + sum (suc p) (at xs)) % 2 ^ 64) (at own p)) (le-ltb p (length xs) (omega arith))
-            ∙ held p h
-            ∙ ap (λ c. sum c v % 2 ^ 64) (sym (lap-late n pos k whole m p short (omega arith) h))
-      ])
 
 -- how many cells a box has, what it costs, and what its stage makes, by its width
 module _ (n : ℕ) where

@@ -5,7 +5,6 @@ use Rattle.stream.specs.Private.{Ready}
 use Rattle.stream.specs.Stages.{entering}
 use Rattle.stream.specs.Calls.{stateOf, start, called, steps, answers, drain}
 use Rattle.stream.proofs.States.{drain-ready}
-use Rattle.stream.proofs.Loading.{cleared, black}
 use mathlib.Core.Path.{sym, ap, subst, _∙_}
 use Rattle.spec.specs.Words.{tab}
 use mathlib.Core.List.{[]}
