@@ -8,7 +8,7 @@
 mod checks;
 #[path = "../jobs.rs"]
 mod jobs;
-#[path = "../stages.rs"]
+#[path = "../stages/mod.rs"]
 mod stages;
 
 use checks::reach;
