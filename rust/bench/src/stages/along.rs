@@ -84,18 +84,16 @@ fn all_totals(count: usize, narrow: &[u16], row: &mut [u64]) -> u64 {
 
 /// From each value the one n places before it, in place from the end of the row.
 /// A block and what is taken from it may overlap, so the latter is copied first.
-fn difference(n: usize, row: &mut [u64]) {
-    let mut end = row.len();
-    while end >= n + BLOCK {
-        let part = &mut row[end - BLOCK - n..end];
-        let before = *part.first_chunk::<BLOCK>().expect("n and a block");
-        let block = part.last_chunk_mut::<BLOCK>().expect("n and a block");
+fn difference(n: usize, mut row: &mut [u64]) {
+    while let Some(from) = row.len().checked_sub(n + BLOCK) {
+        let before: [u64; BLOCK] = row[from..from + BLOCK].try_into().expect("a block");
+        let block;
+        (row, block) = row.split_at_mut(from + n);
         for (value, before) in block.iter_mut().zip(before) {
             *value = value.wrapping_sub(before);
         }
-        end -= BLOCK;
     }
-    for k in (n..end).rev() {
+    for k in (n..row.len()).rev() {
         row[k] = row[k].wrapping_sub(row[k - n]);
     }
 }

@@ -77,7 +77,7 @@ fn rings<const N: usize>(row: &mut [u64], rings: [Ring; N]) {
         last: (&ring.last.0[..count], ring.last.1),
         oldest: (&mut ring.oldest.0[..count], ring.oldest.1),
     });
-    for (k, block) in blocks.iter_mut().enumerate() {
+    for (k, block) in (0..count).zip(blocks) {
         let mut x = *block;
         for Ring { last, oldest } in &mut rings {
             let total = sum(&last.0[k], &x);
