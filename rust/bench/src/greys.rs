@@ -49,6 +49,46 @@ impl<'a> Pass<'a> {
     }
 }
 
+/// 2 to this power stands for 1 in a reciprocal.
+const RECIPROCAL_BITS: u32 = 55;
+
+/// A weight to divide by: its half, downwards, and 2^55 over it, downwards.
+struct Divisor {
+    weight: u64,
+    half: u64,
+    reciprocal: u64,
+}
+
+impl Divisor {
+    fn new(weight: u64) -> Divisor {
+        Divisor {
+            weight,
+            half: weight / 2,
+            reciprocal: (1 << RECIPROCAL_BITS) / weight,
+        }
+    }
+
+    /// The shift that divides by a weight with a single bit set.
+    fn shift(&self) -> Option<u32> {
+        let single = self.weight.is_power_of_two();
+        single.then(|| self.weight.trailing_zeros())
+    }
+
+    fn by_shift(&self, shift: u32, sum: u64) -> u64 {
+        (sum + self.half) >> shift
+    }
+
+    /// The estimate is the quotient or one less, and the next multiple of the
+    /// weight tells which. The outcome is added, so that no branch hangs on the
+    /// sum.
+    fn by_reciprocal(&self, sum: u64) -> u64 {
+        let raised = sum + self.half;
+        let estimate = (raised * self.reciprocal) >> RECIPROCAL_BITS;
+        let next = (estimate + 1) * self.weight;
+        estimate + u64::from(next <= raised)
+    }
+}
+
 fn round_each(sums: &[u64], out: &mut [u8], rounded: impl Fn(u64) -> u64) {
     for (out, &sum) in out.iter_mut().zip(sums) {
         *out = rounded(sum) as u8;
@@ -56,13 +96,10 @@ fn round_each(sums: &[u64], out: &mut [u8], rounded: impl Fn(u64) -> u64) {
 }
 
 /// A weight with a single bit set is divided by a shift.
-fn round(weight: u64, sums: &[u64], out: &mut [u8]) {
-    let half = weight / 2;
-    if weight.is_power_of_two() {
-        let shift = weight.trailing_zeros();
-        round_each(sums, out, |sum| (sum + half) >> shift);
-    } else {
-        round_each(sums, out, |sum| (sum + half) / weight);
+fn round(by: &Divisor, sums: &[u64], out: &mut [u8]) {
+    match by.shift() {
+        Some(shift) => round_each(sums, out, |sum| by.by_shift(shift, sum)),
+        None => round_each(sums, out, |sum| by.by_reciprocal(sum)),
     }
 }
 
@@ -70,8 +107,9 @@ pub fn blur(work: &mut Blur) {
     let recipe = &work.recipe;
     let cells = &mut work.cells[..recipe.needed];
     let mut pass = Pass::new(recipe, &work.pixels, work.side, cells);
+    let by = Divisor::new(recipe.weight);
     for out in work.out.chunks_exact_mut(work.side) {
-        round(recipe.weight, pass.next(), out);
+        round(&by, pass.next(), out);
     }
 }
 
@@ -91,14 +129,10 @@ fn subtract_each(
 }
 
 /// A product of weights with a single bit set is divided by a shift.
-fn subtract(sums: [&[u64]; 2], weights: [u64; 2], out: &mut [i16]) {
-    let product = weights[0] * weights[1];
-    let half = product / 2;
-    if product.is_power_of_two() {
-        let shift = product.trailing_zeros();
-        subtract_each(sums, weights, out, |size| (size + half) >> shift);
-    } else {
-        subtract_each(sums, weights, out, |size| (size + half) / product);
+fn subtract(sums: [&[u64]; 2], weights: [u64; 2], by: &Divisor, out: &mut [i16]) {
+    match by.shift() {
+        Some(shift) => subtract_each(sums, weights, out, |size| by.by_shift(shift, size)),
+        None => subtract_each(sums, weights, out, |size| by.by_reciprocal(size)),
     }
 }
 
@@ -107,8 +141,10 @@ pub fn difference(work: &mut Difference) {
     let (cells_a, cells_b) = work.cells.split_at_mut(a.needed);
     let mut pass_a = Pass::new(a, &work.pixels, work.side, cells_a);
     let mut pass_b = Pass::new(b, &work.pixels, work.side, &mut cells_b[..b.needed]);
+    let weights = [a.weight, b.weight];
+    let by = Divisor::new(a.weight * b.weight);
     for out in work.out.chunks_exact_mut(work.side) {
         let sums = [pass_a.next(), pass_b.next()];
-        subtract(sums, [a.weight, b.weight], out);
+        subtract(sums, weights, &by, out);
     }
 }
