@@ -2,11 +2,8 @@
 //! row through one row of sums, whose middle part is rounded into the output.
 
 use crate::gray_work::{Blur, Difference, Recipe};
-use crate::stages::next_row;
+use crate::stages::{next_row, MOST_WIDTH};
 use crate::work::reach;
-
-/// The largest width of a grown row.
-const MOST_WIDTH: usize = 1024 + 255;
 
 /// The one pass of a recipe over a picture, with one row of sums.
 struct Pass<'a> {
@@ -114,7 +111,7 @@ pub fn blur(work: &mut Blur) {
 }
 
 /// The rounded size of each difference, with its sign. No branch hangs on the
-/// sign.
+/// sign: all bits of `sign` are set for a negative one, and none for others.
 fn subtract_each(
     [a, b]: [&[u64]; 2],
     [weight_a, weight_b]: [u64; 2],
@@ -122,9 +119,10 @@ fn subtract_each(
     rounded: impl Fn(u64) -> u64,
 ) {
     for ((out, &a), &b) in out.iter_mut().zip(a).zip(b) {
-        let gap = (a * weight_b) as i64 - (b * weight_a) as i64;
-        let size = rounded(gap.unsigned_abs()) as i16;
-        *out = size * gap.signum() as i16;
+        let (a, b) = (a * weight_b, b * weight_a);
+        let size = rounded(a.abs_diff(b)) as i16;
+        let sign = -i16::from(a < b);
+        *out = (size ^ sign) - sign;
     }
 }
 

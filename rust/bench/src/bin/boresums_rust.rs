@@ -12,6 +12,7 @@ mod jobs;
 mod stages;
 
 use checks::reach;
+use stages::MOST_WIDTH;
 use std::fs::File;
 use std::io::{self, Read, Write};
 use std::os::fd::AsFd;
@@ -20,8 +21,6 @@ use std::os::fd::AsFd;
 const MOST_BYTES: usize = 65_536;
 /// The work cells.
 const CELLS: usize = 8_192;
-/// The largest width of a grown row.
-const MOST_WIDTH: usize = 1024 + 255;
 /// The bytes of the buffer for the text,
 const BUFFER: usize = 65_536;
 /// and of the longest number with what comes after it.

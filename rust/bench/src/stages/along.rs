@@ -1,12 +1,11 @@
-//! The row list along the pixels of a row and the black places after them: all
-//! boxes at once, by sweeps that take several stages each.
+//! The row list along the pixels of a row and the black places after them, by
+//! sweeps that work several stages each.
 //!
-//! Boxes follow each other in any order. A wider box is a running total and a
-//! difference n apart, so the totals come first, then the boxes of width 2, then
-//! the differences. A list without wider boxes begins in 16 bits.
+//! The order of the stages does not matter, and a wider box is a running total
+//! and then a difference n apart: all totals come first, then the boxes of width
+//! 2, then the differences. A list without wider boxes begins in 16 bits.
 
-/// The largest width of a grown row.
-const MOST_WIDTH: usize = 1024 + 255;
+use super::MOST_WIDTH;
 
 /// The boxes of width 2 whose sums over bytes stay within 16 bits.
 const NARROW: usize = 8;
@@ -14,7 +13,7 @@ const NARROW: usize = 8;
 /// The places of a difference that are worked together.
 const BLOCK: usize = 8;
 
-/// As many boxes of width 2 as N in one sweep: to each value the one before it.
+/// N boxes of width 2 in one sweep: to each value the one before it.
 fn pairs<T: Copy + Default, const N: usize>(row: &mut [T], add: impl Fn(T, T) -> T) {
     let mut before = [T::default(); N];
     for value in row {
@@ -48,8 +47,7 @@ fn add_to<const N: usize>(totals: &mut [u64; N], mut value: u64) -> u64 {
     value
 }
 
-/// As many running totals as N in one sweep, from the pixels. Gives the total of
-/// the pixels.
+/// N running totals in one sweep, from the pixels. Gives the total of the pixels.
 fn first_totals<const N: usize>(narrow: &[u16], row: &mut [u64]) -> u64 {
     let mut totals = [0; N];
     for (value, &pixel) in row.iter_mut().zip(narrow) {
@@ -58,7 +56,7 @@ fn first_totals<const N: usize>(narrow: &[u16], row: &mut [u64]) -> u64 {
     totals[0]
 }
 
-/// As many running totals as N in one sweep, in place.
+/// N running totals in one sweep, in place.
 fn totals<const N: usize>(row: &mut [u64]) {
     let mut totals = [0; N];
     for value in row {
@@ -66,8 +64,8 @@ fn totals<const N: usize>(row: &mut [u64]) {
     }
 }
 
-/// As many running totals as there are wider boxes, at least one, three in a
-/// sweep. Gives the total of the pixels.
+/// One or more running totals, three in a sweep, then one. Gives the total of the
+/// pixels.
 fn all_totals(count: usize, narrow: &[u16], row: &mut [u64]) -> u64 {
     let (total, rest) = match count {
         0..3 => (first_totals::<1>(narrow, row), count - 1),

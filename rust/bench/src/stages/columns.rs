@@ -95,7 +95,7 @@ fn rings<const N: usize>(row: &mut [u64], rings: [Ring; N]) {
     }
 }
 
-/// As many wider boxes as N.
+/// N wider boxes, each with its own part of the cells.
 fn wider<const N: usize>(group: &[u8], emitted: usize, row: &mut [u64], mut cells: &mut [u64]) {
     let width = row.len();
     let stages = array::from_fn::<_, N, _>(|k| {

@@ -5,6 +5,9 @@
 mod along;
 mod columns;
 
+/// The largest width of a grown row.
+pub const MOST_WIDTH: usize = 1024 + 255;
+
 /// The cells of a box, for each place of a row where it stands in the column
 /// list.
 fn cells_of(n: u8) -> usize {
