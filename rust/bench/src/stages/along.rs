@@ -68,7 +68,7 @@ fn totals<const N: usize>(row: &mut [u64]) {
 /// pixels.
 fn all_totals(count: usize, narrow: &[u16], row: &mut [u64]) -> u64 {
     let (total, rest) = match count {
-        0..3 => (first_totals::<1>(narrow, row), count - 1),
+        1 | 2 => (first_totals::<1>(narrow, row), count - 1),
         _ => (first_totals::<3>(narrow, row), count - 3),
     };
     for _ in 0..rest / 3 {
