@@ -13,12 +13,12 @@ fn first_totals(narrow: &[u16], row: &mut [u64]) -> u64
     ensures { λ r. let xs = now (narrow .entry) in
         ⌜ (r ≡ sum (length xs) (at xs) % 2 ^ 64) × (now (row .exit) ≡ totalled xs) ⌝ }
 {
-    let mut a: u64 = 0;
+    let mut total: u64 = 0;
     for k in 0..row.len() {
-        a = std::num::wrapping_add_u64(a, long(narrow[k]));
-        row[k] = a;
+        total = std::num::wrapping_add_u64(total, long(narrow[k]));
+        row[k] = total;
     }
-    a
+    total
 }
 
 // The total of all values, and their running totals three times.
@@ -42,10 +42,10 @@ fn first_three(narrow: &[u16], row: &mut [u64]) -> u64
 fn totals(row: &mut [u64])
     ensures { λ r. ⌜ now (row .exit) ≡ totalled (now (row .entry)) ⌝ }
 {
-    let mut a: u64 = 0;
+    let mut total: u64 = 0;
     for k in 0..row.len() {
-        a = std::num::wrapping_add_u64(a, row[k]);
-        row[k] = a;
+        total = std::num::wrapping_add_u64(total, row[k]);
+        row[k] = total;
     }
 }
 
