@@ -7,5 +7,7 @@ pub mod Black
 pub mod RowList
 pub mod Left
 pub mod Kept
+pub mod Groups
+pub mod Sweeps
 pub mod States
 pub mod Loading

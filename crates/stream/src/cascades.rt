@@ -5,37 +5,12 @@ ghost use Prim.Native.Nat.{_+_, _*_, _^_, _≤_, _<_};
 ghost use lib.ListN.{length, getD};
 ghost use Rattle.spec.specs.Words.{tab};
 ghost use Rattle.spec.specs.Recipe.{widths, recipe, order, weight};
-ghost use Rattle.spec.specs.Stream.{boxCells, cascadeCells, cascadeCost};
-ghost use Rattle.stream.specs.Stages.{columnStage, stages as stagesOf, worked};
+ghost use Rattle.spec.specs.Stream.{cascadeCells, cascadeCost};
+ghost use Rattle.stream.specs.Stages.{worked};
 use along::along;
+use crate::columns::down;
 use crate::keeping::keep;
-use crate::sizes::box_cells;
-use crate::stages::column_box;
-use filter::width_at;
-use spec::Cascade;
 use spec::Filter;
-
-// The column list, at the row after `emitted` others.
-fn down(list: Cascade, emitted: usize, row: &mut [u64], cells: &mut [u64]) -> u64
-    requires { ⌜ (list .count ≤ 48) × (0 < length (now row)) × (length (now row) ≤ 1279)
-        × (length (now row) * cascadeCells (widths list) ≤ length (now cells)) ⌝ }
-    ensures { λ r. let w = length (now (row .entry)) in
-        let made = stagesOf (λ n. w * boxCells n) (columnStage emitted) (widths list) (now (row .entry)) (now (cells .entry)) in
-        ⌜ (r ≡ w * cascadeCost (widths list)) × (now (row .exit) ≡ made .row) × (now (cells .exit) ≡ made .cells) ⌝ }
-{
-    let count = list.count as usize;
-    let mut total: u64 = 0;
-    let mut start: usize = 0;
-    let mut j: usize = 0;
-    while j < count {
-        let n = width_at(list.count, &list.widths, j);
-        let end = start + row.len() * box_cells(n);
-        total += column_box(n, emitted, row, &mut cells[start..end]);
-        start = end;
-        j += 1;
-    }
-    total
-}
 
 // Both lists on the pixels of a row and black places after them, as many as the row list reaches, at the
 // row after `emitted` others.

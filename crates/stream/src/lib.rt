@@ -2,9 +2,9 @@
 // running state by value and lent cells.
 mod calls;
 mod cascades;
+mod columns;
 mod keeping;
 mod sizes;
-mod stages;
 
 pub use calls::Started;
 pub use calls::State;

@@ -1,9 +1,9 @@
--- `stream::stages::slot_before` meets its contract, by the test on the way.
+-- `stream::columns::slot_before` meets its contract, by the test on the way.
 -- Assumes nothing.
 use borrow.Author.Tests.{eq-eqb, ne-eqb}
 use borrow.Author.Needs.{needs}
-use Rattle.stream.proofs.stages.slot_before.Statement.{statement}
-use Rattle.stream.proofs.stages.slot_before.Tie as tie
+use Rattle.stream.proofs.columns.slot_before.Statement.{statement}
+use Rattle.stream.proofs.columns.slot_before.Tie as tie
 
 sub-result : tie.Need-sub-result
 sub-result c = search needs

@@ -1,9 +1,9 @@
--- `stream::stages::less` meets its contract: the machine's answer is the difference modulo 2^64.
+-- `stream::columns::less` meets its contract: the machine's answer is the difference modulo 2^64.
 -- Assumes nothing.
 use Rattle.stream.proofs.Wrapping.{minus-is}
 use borrow.Author.Needs.{needs}
-use Rattle.stream.proofs.stages.less.Statement.{statement}
-use Rattle.stream.proofs.stages.less.Tie as tie
+use Rattle.stream.proofs.columns.less.Statement.{statement}
+use Rattle.stream.proofs.columns.less.Tie as tie
 
 wrapping-sub-u64-requires : tie.Need-wrapping-sub-u64-requires
 wrapping-sub-u64-requires c κs = search needs
