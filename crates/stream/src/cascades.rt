@@ -7,14 +7,20 @@ ghost use Rattle.spec.specs.Words.{tab};
 ghost use Rattle.spec.specs.Recipe.{widths, recipe, order, weight};
 ghost use Rattle.spec.specs.Stream.{cascadeCells, cascadeCost};
 ghost use Rattle.stream.specs.Stages.{worked};
-use along::along;
 use crate::columns::down;
 use crate::keeping::keep;
+use along::along;
 use spec::Filter;
 
 // Both lists on the pixels of a row and black places after them, as many as the row list reaches, at the
 // row after `emitted` others.
-pub(crate) fn work(filter: Filter, emitted: usize, pixels: &[u8], row: &mut [u64], cells: &mut [u64]) -> u64
+pub(crate) fn work(
+    filter: Filter,
+    emitted: usize,
+    pixels: &[u8],
+    row: &mut [u64],
+    cells: &mut [u64],
+) -> u64
     requires { let ns = widths (filter .rows) in
         ⌜ (filter .rows .count ≤ 48) × (filter .columns .count ≤ 48) × (0 < length (now row)) × (length (now row) ≤ 1279)
         × (cascadeCells ns + length (now row) * cascadeCells (widths (filter .columns)) ≤ length (now cells))

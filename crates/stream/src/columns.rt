@@ -188,6 +188,75 @@ fn rings(count: usize, befores: &[usize; 3], oldests: &[usize; 3], row: &mut [u6
     ring_block(count, from, few, befores, oldests, row, own);
 }
 
+// Three wider stages in turn, written out: a loop over them takes a third more time.
+fn three_on(x: &mut [u64], from: usize, befores: &[usize; 3], oldests: &[usize; 3], own: &mut [u64])
+    requires { ⌜ (length (now x) ≤ 8)
+        × ((s : ℕ) → s < 3 → Apart (getD (now befores) s 0 + from) (getD (now oldests) s 0 + from) (length (now x)) (length (now own))) ⌝ }
+    ensures { λ r. let made = ringsFrom from (now (befores .entry)) (now (oldests .entry)) 3 (now (x .entry)) (now (own .entry)) in
+        ⌜ (now (x .exit) ≡ made .row) × (now (own .exit) ≡ made .cells) ⌝ }
+{
+    let before = befores[0] + from;
+    let oldest = oldests[0] + from;
+    ring(x, before, oldest, own);
+    let next_before = befores[1] + from;
+    let next_oldest = oldests[1] + from;
+    ring(x, next_before, next_oldest, own);
+    let last_before = befores[2] + from;
+    let last_oldest = oldests[2] + from;
+    ring(x, last_before, last_oldest, own);
+}
+
+// A block of eight columns.
+fn three_block(
+    from: usize,
+    befores: &[usize; 3],
+    oldests: &[usize; 3],
+    row: &mut [u64],
+    own: &mut [u64],
+)
+    requires { ⌜ (from + 8 ≤ length (now row))
+        × ((s : ℕ) → s < 3 → Apart (getD (now befores) s 0) (getD (now oldests) s 0) (length (now row)) (length (now own))) ⌝ }
+    ensures { λ r. let old = now (row .entry) in
+        let made = ringsFrom from (now (befores .entry)) (now (oldests .entry)) 3 (take 8 (drop from old)) (now (own .entry)) in
+        ⌜ (now (row .exit) ≡ take from old ++ (made .row ++ drop (from + 8) old)) × (now (own .exit) ≡ made .cells) ⌝ }
+{
+    let z: usize = 0;
+    let few: usize = 8;
+    let to = from + few;
+    let mut x = [0u64; 8];
+    copy(&row[from..to], &mut x[z..few]);
+    three_on(&mut x[z..few], from, befores, oldests, own);
+    copy(&x[z..few], &mut row[from..to]);
+}
+
+// A group of three wider ones.
+fn three_rings(befores: &[usize; 3], oldests: &[usize; 3], row: &mut [u64], own: &mut [u64])
+    requires { ⌜ Rings (length (now row)) 3 (length (now own)) (now befores) (now oldests) ⌝ }
+    ensures { λ r. let made = ringsFrom 0 (now (befores .entry)) (now (oldests .entry)) 3 (now (row .entry)) (now (own .entry)) in
+        ⌜ (now (row .exit) ≡ made .row) × (now (own .exit) ≡ made .cells) ⌝ }
+{
+    let mut from: usize = 0;
+    while 8 <= row.len() - from {
+        three_block(from, befores, oldests, row, own);
+        from += 8;
+    }
+    let few = row.len() - from;
+    ring_block(3, from, few, befores, oldests, row, own);
+}
+
+// A group of wider ones.
+fn wider(count: usize, befores: &[usize; 3], oldests: &[usize; 3], row: &mut [u64], own: &mut [u64])
+    requires { ⌜ (count ≤ 3) × Rings (length (now row)) count (length (now own)) (now befores) (now oldests) ⌝ }
+    ensures { λ r. let made = ringsFrom 0 (now (befores .entry)) (now (oldests .entry)) count (now (row .entry)) (now (own .entry)) in
+        ⌜ (now (row .exit) ≡ made .row) × (now (own .exit) ≡ made .cells) ⌝ }
+{
+    if count == 3 {
+        three_rings(befores, oldests, row, own);
+    } else {
+        rings(count, befores, oldests, row, own);
+    }
+}
+
 // How many widths from a place on, the first of them included, lie between two bounds; not more than `longest`.
 fn alike(list: Cascade, from: usize, least: u8, most: u8, longest: usize) -> usize
     requires { ⌜ (0 < least) × (0 < longest) × (longest ≤ 4) × (from < list .count) × (list .count ≤ 48)
@@ -297,7 +366,7 @@ fn group(
     let found = slots(list, from, count, emitted, width);
     let befores = found.befores;
     let oldests = found.oldests;
-    rings(count, &befores, &oldests, row, own);
+    wider(count, &befores, &oldests, row, own);
     2 * places
 }
 

@@ -91,8 +91,8 @@ cells c =
     let start = c .before .before .before .before .before .before .before .before .before in
     group-size (length (start .args .row .now)) _ ∙ sym (start .pre .3)
 
-rings-requires : tie.Need-rings-requires
-rings-requires c κs =
+wider-requires : tie.Need-wider-requires
+wider-requires c κs =
     let start = c .before .before .before .before .before .before .before .before .before .before .before .before .before .before .before in
     let a = start .args in
     let wide = two-less _ (c .before .before .before .before .before .before .before .before .if1 .left) (c .before .before .before .before .before .before .before .if2 .left) in
@@ -122,7 +122,7 @@ returns-3 c =
     let start = c .before .before .before .before .before .before .before .before .before .before .before .before .before .before .before .before .before .before .before .before in
     let a = start .args in
     let w = length (a .row .now) in
-    let done = c .before .before .before .before .rings in
+    let done = c .before .before .before .before .wider in
     let all = column-rings (a .emitted) w _ (a .count) (run-counted (widths (a .t1)) (a .from) (a .count) (start .pre .2)) _ _ (a .row .now) (a .own .now) (c .before .before .before .before .before .before .before .before .before .before .before .slots .ensures) refl (cells (c .before .before .before .before .before .before .before .before .before .before .before)) in
     (omega (arith, ap (λ n. w * n) (all .1), mul-assoc w (a .count) 2, mul-comm w (a .count)), done .ensures .0 ∙ ap (λ (o : Worked). o .row) (all .0), done .ensures .1 ∙ ap (λ (o : Worked). o .cells) (all .0))
 
@@ -138,7 +138,7 @@ group-spec =
     same-length-2
     returns-2
     slots-requires
-    rings-requires
+    wider-requires
     mul-result
     same-length-3
     same-length-4
