@@ -17,7 +17,7 @@ use Rattle.laws.proofs.Lists.{length-tab, getD-tab}
 use Rattle.laws.proofs.Kernels.{at}
 use Rattle.laws.proofs.Cascades.{spread, cascaded, spread-unit}
 use Rattle.along.specs.Along.{wide}
-use Rattle.along.specs.Private.{repeat, paired, totalled, differences, widened, wides}
+use Rattle.along.specs.Private.{repeat, paired, totalled, differences, wideBoxes, wides}
 use Rattle.along.proofs.Orders.{totals, totals-box, totals-cascaded, box-cascaded}
 use Rattle.along.proofs.Rows.{row, row-exact, pairs-row, totals-row, differences-row, pairs-small}
 
@@ -53,39 +53,39 @@ module _ (n : ℕ) (ns : List ℕ) where
   unfolding occurs total
   twos-more e = rw e (omega arith)
 
-  widened-none : wide n ≡ false → (xs : List ℕ) → widened (n ∷ ns) xs ≡ widened ns xs
-  unfolding widened
-  widened-none e xs = rw e refl
+  wide-boxes-none : wide n ≡ false → (xs : List ℕ) → wideBoxes (n ∷ ns) xs ≡ wideBoxes ns xs
+  unfolding wideBoxes
+  wide-boxes-none e xs = rw e refl
 
-  widened-more : wide n ≡ true → (xs : List ℕ) → widened (n ∷ ns) xs ≡ widened ns (differences n xs)
-  unfolding widened
-  widened-more e xs = rw e refl
+  wide-boxes-more : wide n ≡ true → (xs : List ℕ) → wideBoxes (n ∷ ns) xs ≡ wideBoxes ns (differences n xs)
+  unfolding wideBoxes
+  wide-boxes-more e xs = rw e refl
 
 -- a list from its width at i on: that width is done, and none is left
-pub widened-next : (ns : List ℕ) (i n : ℕ) (xs new target : List ℕ) → drop i ns ≡ n ∷ drop (suc i) ns
-    → new ≡ cond (wide n) (differences n xs) xs → widened (drop i ns) xs ≡ target → widened (drop (i + 1) ns) new ≡ target
-unfolding widened
-widened-next ns i n xs new target d e g =
-    ap₂ (λ j l. widened (drop j ns) l) (add-one i) e ∙ sym (ap (λ l. widened l xs) d) ∙ g
+pub wide-boxes-next : (ns : List ℕ) (i n : ℕ) (xs new target : List ℕ) → drop i ns ≡ n ∷ drop (suc i) ns
+    → new ≡ cond (wide n) (differences n xs) xs → wideBoxes (drop i ns) xs ≡ target → wideBoxes (drop (i + 1) ns) new ≡ target
+unfolding wideBoxes
+wide-boxes-next ns i n xs new target d e g =
+    ap₂ (λ j l. wideBoxes (drop j ns) l) (add-one i) e ∙ sym (ap (λ l. wideBoxes l xs) d) ∙ g
 
-pub widened-all : (ns : List ℕ) (i : ℕ) (xs target : List ℕ) → length ns ≤ i → widened (drop i ns) xs ≡ target → xs ≡ target
-unfolding widened
-widened-all ns i xs target h g = sym (ap (λ l. widened l xs) (drop-of-length-le ns {i = i} h)) ∙ g
+pub wide-boxes-all : (ns : List ℕ) (i : ℕ) (xs target : List ℕ) → length ns ≤ i → wideBoxes (drop i ns) xs ≡ target → xs ≡ target
+unfolding wideBoxes
+wide-boxes-all ns i xs target h g = sym (ap (λ l. wideBoxes l xs) (drop-of-length-le ns {i = i} h)) ∙ g
 
 -- a sequence after the running totals and the boxes of width 2 of a list
 unfoldable pub begun : List ℕ → (ℕ → ℕ) → ℕ → ℕ
 begun ns f = totals (wides ns) (cascaded 1 (replicate (occurs 2 ns) 2) f)
 
 -- the differences of a list's wide widths, after its running totals and its boxes of width 2: all of its boxes
-widened-empty : (w : ℕ) (f : ℕ → ℕ) → widened [] (row (2 ^ 64) w (begun [] f)) ≡ row (2 ^ 64) w (cascaded 1 [] f)
-unfolding begun cascaded widened totals wides occurs total
-widened-empty w f = refl
+wide-boxes-empty : (w : ℕ) (f : ℕ → ℕ) → wideBoxes [] (row (2 ^ 64) w (begun [] f)) ≡ row (2 ^ 64) w (cascaded 1 [] f)
+unfolding begun cascaded wideBoxes totals wides occurs total
+wide-boxes-empty w f = refl
 
-pub widened-row : (w : ℕ) (ns : List ℕ) (f : ℕ → ℕ) → widened ns (row (2 ^ 64) w (begun ns f)) ≡ row (2 ^ 64) w (cascaded 1 ns f)
+pub wide-boxes-row : (w : ℕ) (ns : List ℕ) (f : ℕ → ℕ) → wideBoxes ns (row (2 ^ 64) w (begun ns f)) ≡ row (2 ^ 64) w (cascaded 1 ns f)
 unfolding begun cascaded totals
-widened-row w [] f = widened-empty w f
-widened-row w (n ∷ ns) f =
-    let rest = widened-row w ns in
+wide-boxes-row w [] f = wide-boxes-empty w f
+wide-boxes-row w (n ∷ ns) f =
+    let rest = wide-boxes-row w ns in
     elim (decLt n 1) [
       | yes h ↦ other n ns w f rest (λ e. omega arith) (λ e. omega arith)
       | no h ↦
@@ -99,35 +99,35 @@ widened-row w (n ∷ ns) f =
           ]
     ]
   where
-    one : (n : ℕ) (ns : List ℕ) (w : ℕ) (f : ℕ → ℕ) → ((g : ℕ → ℕ) → widened ns (row (2 ^ 64) w (begun ns g)) ≡ row (2 ^ 64) w (cascaded 1 ns g))
-        → n ≡ 1 → widened (n ∷ ns) (row (2 ^ 64) w (begun (n ∷ ns) f)) ≡ row (2 ^ 64) w (cascaded 1 ns (spread 1 n f))
+    one : (n : ℕ) (ns : List ℕ) (w : ℕ) (f : ℕ → ℕ) → ((g : ℕ → ℕ) → wideBoxes ns (row (2 ^ 64) w (begun ns g)) ≡ row (2 ^ 64) w (cascaded 1 ns g))
+        → n ≡ 1 → wideBoxes (n ∷ ns) (row (2 ^ 64) w (begun (n ∷ ns) f)) ≡ row (2 ^ 64) w (cascaded 1 ns (spread 1 n f))
     one n ns w f rest e =
         let unit : spread 1 n f ≡ f = ap (λ m. spread 1 m f) e ∙ fun-ext (spread-unit 1 f) in
-        widened-none n ns (wide-one n e) (row (2 ^ 64) w (begun (n ∷ ns) f))
-        ∙ ap₂ (λ a b. widened ns (row (2 ^ 64) w (totals a (cascaded 1 (replicate b 2) f))))
+        wide-boxes-none n ns (wide-one n e) (row (2 ^ 64) w (begun (n ∷ ns) f))
+        ∙ ap₂ (λ a b. wideBoxes ns (row (2 ^ 64) w (totals a (cascaded 1 (replicate b 2) f))))
         (wides-none n ns (wide-one n e)) (twos-none n ns (λ d. omega arith))
         ∙ rest f
         ∙ ap (λ g. row (2 ^ 64) w (cascaded 1 ns g)) (sym unit)
 
-    two : (n : ℕ) (ns : List ℕ) (w : ℕ) (f : ℕ → ℕ) → ((g : ℕ → ℕ) → widened ns (row (2 ^ 64) w (begun ns g)) ≡ row (2 ^ 64) w (cascaded 1 ns g))
-        → n ≡ 2 → widened (n ∷ ns) (row (2 ^ 64) w (begun (n ∷ ns) f)) ≡ row (2 ^ 64) w (cascaded 1 ns (spread 1 n f))
+    two : (n : ℕ) (ns : List ℕ) (w : ℕ) (f : ℕ → ℕ) → ((g : ℕ → ℕ) → wideBoxes ns (row (2 ^ 64) w (begun ns g)) ≡ row (2 ^ 64) w (cascaded 1 ns g))
+        → n ≡ 2 → wideBoxes (n ∷ ns) (row (2 ^ 64) w (begun (n ∷ ns) f)) ≡ row (2 ^ 64) w (cascaded 1 ns (spread 1 n f))
     two n ns w f rest e =
-        widened-none n ns (wide-two n e) (row (2 ^ 64) w (begun (n ∷ ns) f))
-        ∙ ap₂ (λ a b. widened ns (row (2 ^ 64) w (totals a (cascaded 1 (replicate b 2) f))))
+        wide-boxes-none n ns (wide-two n e) (row (2 ^ 64) w (begun (n ∷ ns) f))
+        ∙ ap₂ (λ a b. wideBoxes ns (row (2 ^ 64) w (totals a (cascaded 1 (replicate b 2) f))))
         (wides-none n ns (wide-two n e)) (twos-more n ns e)
         ∙ rest (spread 1 2 f)
         ∙ ap (λ m. row (2 ^ 64) w (cascaded 1 ns (spread 1 m f))) (sym e)
 
-    other : (n : ℕ) (ns : List ℕ) (w : ℕ) (f : ℕ → ℕ) → ((g : ℕ → ℕ) → widened ns (row (2 ^ 64) w (begun ns g)) ≡ row (2 ^ 64) w (cascaded 1 ns g))
-        → (n ≡ 1 → ⊥) → (n ≡ 2 → ⊥) → widened (n ∷ ns) (row (2 ^ 64) w (begun (n ∷ ns) f)) ≡ row (2 ^ 64) w (cascaded 1 ns (spread 1 n f))
+    other : (n : ℕ) (ns : List ℕ) (w : ℕ) (f : ℕ → ℕ) → ((g : ℕ → ℕ) → wideBoxes ns (row (2 ^ 64) w (begun ns g)) ≡ row (2 ^ 64) w (cascaded 1 ns g))
+        → (n ≡ 1 → ⊥) → (n ≡ 2 → ⊥) → wideBoxes (n ∷ ns) (row (2 ^ 64) w (begun (n ∷ ns) f)) ≡ row (2 ^ 64) w (cascaded 1 ns (spread 1 n f))
     other n ns w f rest h g =
         let pairs : List ℕ = replicate (occurs 2 ns) 2 in
         let left = totals (wides ns) (cascaded 1 pairs f) in
-        widened-more n ns (wide-other n h g) (row (2 ^ 64) w (begun (n ∷ ns) f))
-        ∙ ap₂ (λ a b. widened ns (differences n (row (2 ^ 64) w (totals a (cascaded 1 (replicate b 2) f)))))
+        wide-boxes-more n ns (wide-other n h g) (row (2 ^ 64) w (begun (n ∷ ns) f))
+        ∙ ap₂ (λ a b. wideBoxes ns (differences n (row (2 ^ 64) w (totals a (cascaded 1 (replicate b 2) f)))))
         (wides-more n ns (wide-other n h g)) (twos-none n ns g)
-        ∙ ap (widened ns) (differences-row n w left)
-        ∙ ap (λ u. widened ns (row (2 ^ 64) w u))
+        ∙ ap (wideBoxes ns) (differences-row n w left)
+        ∙ ap (λ u. wideBoxes ns (row (2 ^ 64) w u))
         (totals-box (wides ns) n (cascaded 1 pairs f) ∙ ap (totals (wides ns)) (sym (box-cascaded n pairs f)))
         ∙ rest (spread 1 n f)
 
@@ -144,10 +144,10 @@ module _ (n : ℕ) (ns : List ℕ) (e : wides (n ∷ ns) ≡ 0) where
   rest-not : wides ns ≡ 0
   rest-not = sym (wides-none n ns first-not) ∙ e
 
-pub widened-still : (ns xs : List ℕ) → wides ns ≡ 0 → widened ns xs ≡ xs
-unfolding widened
-widened-still [] xs e = refl
-widened-still (n ∷ ns) xs e = widened-none n ns (first-not n ns e) xs ∙ widened-still ns xs (rest-not n ns e)
+pub wide-boxes-still : (ns xs : List ℕ) → wides ns ≡ 0 → wideBoxes ns xs ≡ xs
+unfolding wideBoxes
+wide-boxes-still [] xs e = refl
+wide-boxes-still (n ∷ ns) xs e = wide-boxes-none n ns (first-not n ns e) xs ∙ wide-boxes-still ns xs (rest-not n ns e)
 
 pub nowhere-wide : (ns : List ℕ) → wides ns ≡ 0 → somewhere wide ns ≡ false
 unfolding somewhere
@@ -201,25 +201,26 @@ module _ (w : ℕ) (ns pixels : List ℕ) (bytes : (k : ℕ) → at pixels k ≤
       ∙ pairs-row (2 ^ 64) w (c - fast) f
       ∙ ap (row (2 ^ 64) w) (pairs-add fast (c - fast) p ∙ ap (λ n. cascaded 1 (replicate n 2) p) all)
       ∙ ap (λ n. row (2 ^ 64) w (totals n (cascaded 1 (replicate c 2) p))) (sym none)
-      ∙ sym (widened-still ns (row (2 ^ 64) w (begun ns p)) none)
-      ∙ widened-row w ns p
+      ∙ sym (wide-boxes-still ns (row (2 ^ 64) w (begun ns p)) none)
+      ∙ wide-boxes-row w ns p
 
   -- with one: running totals, boxes of width 2 and differences
-  pub worked-totals : widened ns (repeat (occurs 2 ns) (paired (2 ^ 64)) (repeat (wides ns) totalled (tab w (at pixels))))
+  pub worked-totals : wideBoxes ns (repeat (occurs 2 ns) (paired (2 ^ 64)) (repeat (wides ns) totalled (tab w (at pixels))))
       ≡ row (2 ^ 64) w (cascaded 1 ns (at pixels))
   unfolding begun
   worked-totals =
       let c = occurs 2 ns in
       let p = at pixels in
-      ap (λ l. widened ns (repeat c (paired (2 ^ 64)) (repeat (wides ns) totalled l)))
+      ap (λ l. wideBoxes ns (repeat c (paired (2 ^ 64)) (repeat (wides ns) totalled l)))
       (row-exact (2 ^ 64) w p (λ k. omega (arith, bytes k)))
-      ∙ ap (λ l. widened ns (repeat c (paired (2 ^ 64)) l)) (totals-row w (wides ns) p)
-      ∙ ap (widened ns)
+      ∙ ap (λ l. wideBoxes ns (repeat c (paired (2 ^ 64)) l)) (totals-row w (wides ns) p)
+      ∙ ap (wideBoxes ns)
       (pairs-row (2 ^ 64) w c (totals (wides ns) p) ∙ ap (row (2 ^ 64) w) (totals-cascaded (wides ns) (replicate c 2) p))
-      ∙ widened-row w ns p
+      ∙ wide-boxes-row w ns p
 
-  pub worked-sum : sum (length (tab w (at pixels))) (at (tab w (at pixels))) ≡ sum w (at pixels)
-  unfolding at
-  worked-sum =
-      ap (λ n. sum n (at (tab w (at pixels)))) (length-tab w (at pixels))
-      ∙ sum-agree (at (tab w (at pixels))) (at pixels) w (λ k h. getD-tab w (at pixels) k 0 h)
+-- the total of a row that was loaded
+pub worked-sum : (w : ℕ) (pixels : List ℕ) → sum (length (tab w (at pixels))) (at (tab w (at pixels))) ≡ sum w (at pixels)
+unfolding at
+worked-sum w pixels =
+    ap (λ n. sum n (at (tab w (at pixels)))) (length-tab w (at pixels))
+    ∙ sum-agree (at (tab w (at pixels))) (at pixels) w (λ k h. getD-tab w (at pixels) k 0 h)

@@ -35,9 +35,9 @@ unfoldable pub differences : ℕ → List ℕ → List ℕ
 differences n xs = tab (length xs) (lessEarlier n xs)
 
 -- differences for each wide width of a list
-unfoldable pub widened : List ℕ → List ℕ → List ℕ
-widened [] xs = xs
-widened (n ∷ ns) xs = widened ns (cond (wide n) (differences n xs) xs)
+unfoldable pub wideBoxes : List ℕ → List ℕ → List ℕ
+wideBoxes [] xs = xs
+wideBoxes (n ∷ ns) xs = wideBoxes ns (cond (wide n) (differences n xs) xs)
 
 -- how many widths of a list are wide
 unfoldable pub wides : List ℕ → ℕ

@@ -1,4 +1,5 @@
-// From each value of a row the value n places earlier taken away, modulo 2^64, in place from the end of the row.
+// From each value of a row the value n places earlier taken away, modulo 2^64, in place from the end of
+// the row.
 ghost use mathlib.Core.Path.{_≡_};
 ghost use mathlib.Core.Bool.{cond};
 ghost use mathlib.Core.List.{_++_};
@@ -9,7 +10,7 @@ ghost use Rattle.spec.specs.Recipe.{widths};
 ghost use Rattle.laws.proofs.Kernels.{at};
 ghost use Rattle.laws.proofs.Slices.{Leftwards};
 ghost use Rattle.along.specs.Along.{wide};
-ghost use Rattle.along.specs.Private.{minus, lessEarlier, differences, widened};
+ghost use Rattle.along.specs.Private.{minus, lessEarlier, differences, wideBoxes};
 use filter::width_at;
 use spec::Cascade;
 
@@ -39,7 +40,8 @@ fn subtract(row: &mut [u64], by: &[u64])
     }
 }
 
-// Eight differences from a place on. What is taken away is copied first, since it may reach into the eight.
+// Eight differences from a place on. What is taken away is copied first, since it may reach into the
+// eight.
 fn eight_apart(n: usize, from: usize, row: &mut [u64])
     requires { ⌜ (n ≤ from) × (from + 8 ≤ length (now row)) ⌝ }
     ensures { λ r. let xs = now (row .entry) in
@@ -78,7 +80,7 @@ fn apart(n: usize, row: &mut [u64])
     }
 }
 
-// One width of a list: 1 changes nothing, and 2 is done.
+// One width of a list: 1 changes nothing, and the boxes of width 2 are done elsewhere.
 fn apart_if_wide(n: u8, row: &mut [u64])
     ensures { λ r. ⌜ now (row .exit) ≡ cond (wide n) (differences n (now (row .entry))) (now (row .entry)) ⌝ }
 {
@@ -93,7 +95,7 @@ fn apart_if_wide(n: u8, row: &mut [u64])
 
 // All wide widths of a list.
 pub(crate) fn all_apart(list: Cascade, row: &mut [u64])
-    ensures { λ r. ⌜ now (row .exit) ≡ widened (widths list) (now (row .entry)) ⌝ }
+    ensures { λ r. ⌜ now (row .exit) ≡ wideBoxes (widths list) (now (row .entry)) ⌝ }
 {
     let count = list.count as usize;
     for i in 0..count {

@@ -1,7 +1,7 @@
-// The row list of the one pass on a row of pixels, all its boxes in one call. Boxes along a row may be taken in
-// any order, and a box of width n is the running total less the running total n places earlier: so first come the
-// running totals, one for each wide box, then the boxes of width 2, and then the differences. Without a wide box
-// the row begins in 16 bits.
+// The row list of the one pass on a row of pixels, all its boxes in one call. Boxes along a row may be
+// taken in any order, and a box of width n is the running total less the running total n places earlier:
+// so first come the running totals, one for each wide box, then the boxes of width 2, and then the
+// differences. Without a wide box the row begins in 16 bits.
 ghost use mathlib.Core.Path.{_≡_};
 ghost use mathlib.Core.Bool.{cond};
 ghost use Prim.Native.Nat.{_-_, _%_, _^_, min};
@@ -20,12 +20,11 @@ mod pairs;
 mod totals;
 
 use crate::differences::all_apart;
-use crate::lists::twos_of;
-use crate::lists::wides_of;
+use crate::lists::counted;
+use crate::narrow::extend;
 use crate::narrow::least;
 use crate::narrow::load;
 use crate::narrow::narrow_pairs;
-use crate::narrow::widen;
 use crate::pairs::pairs;
 use crate::totals::first_sums;
 use spec::Cascade;
@@ -38,7 +37,7 @@ fn work_pairs(count: usize, narrow: &mut [u16], row: &mut [u64])
 {
     let fast = least(count, 8);
     narrow_pairs(fast, narrow);
-    widen(narrow, row);
+    extend(narrow, row);
     pairs(count - fast, row);
 }
 
@@ -50,8 +49,9 @@ fn work(list: Cascade, pixels: &[u8], narrow: &mut [u16], row: &mut [u64]) -> u6
         × (r ≡ cond (somewhere wide (widths list)) (sum w p % 2 ^ 64) 0) ⌝ }
 {
     load(pixels, narrow);
-    let twos = twos_of(list);
-    let wides = wides_of(list);
+    let counts = counted(list);
+    let twos = counts.twos;
+    let wides = counts.wides;
     if wides == 0 {
         work_pairs(twos, narrow, row);
         return 0;
@@ -62,9 +62,10 @@ fn work(list: Cascade, pixels: &[u8], narrow: &mut [u16], row: &mut [u64]) -> u6
     total
 }
 
-// Works a row list along the pixels of a row and the black places after them, modulo 2^64; what the row held is
-// not read, nor are pixels past its end. Returns the total of the pixels where the list has a wide box, and 0
-// where it has none. A list longer than 48 or a row longer than 1,279 is left alone, with a result of 0.
+// Works a row list along the pixels of a row and the black places after them, modulo 2^64. What the row
+// held is not read, nor are pixels past its end. Returns the total of the pixels where the list has a wide
+// box, and 0 where it has none. Where the list is longer than 48, or the row than 1,279, the row is left as
+// it was, and the result is 0.
 pub fn along(list: Cascade, pixels: &[u8], row: &mut [u64]) -> u64
     ensures { λ r. let ns = widths list in let xs = now (pixels .entry) in let old = now (row .entry) in
         ⌜ (now (row .exit) ≡ rowAfter ns xs old) × (r ≡ totalAfter ns xs (length old)) ⌝ }

@@ -71,39 +71,24 @@ fn narrow_four(row: &mut [u16])
     }
 }
 
-// Four at a time. Returns how many are left.
-fn narrow_fours(count: usize, row: &mut [u16]) -> usize
-    ensures { λ r. ⌜ repeat r (paired (2 ^ 16)) (now (row .exit)) ≡ repeat count (paired (2 ^ 16)) (now (row .entry)) ⌝ }
-{
-    let mut left = count;
-    while 4 <= left {
-        narrow_four(row);
-        left -= 4;
-    }
-    left
-}
-
-// One at a time.
-fn narrow_ones(count: usize, row: &mut [u16])
+// So many boxes of width 2, four in a sweep and then one.
+pub(crate) fn narrow_pairs(count: usize, row: &mut [u16])
     ensures { λ r. ⌜ now (row .exit) ≡ repeat count (paired (2 ^ 16)) (now (row .entry)) ⌝ }
 {
     let mut left = count;
     while 0 < left {
-        narrow_pair(row);
-        left -= 1;
+        if 4 <= left {
+            narrow_four(row);
+            left -= 4;
+        } else {
+            narrow_pair(row);
+            left -= 1;
+        }
     }
 }
 
-// So many boxes of width 2.
-pub(crate) fn narrow_pairs(count: usize, row: &mut [u16])
-    ensures { λ r. ⌜ now (row .exit) ≡ repeat count (paired (2 ^ 16)) (now (row .entry)) ⌝ }
-{
-    let left = narrow_fours(count, row);
-    narrow_ones(left, row);
-}
-
 // The row in 64 bits.
-pub(crate) fn widen(narrow: &[u16], row: &mut [u64])
+pub(crate) fn extend(narrow: &[u16], row: &mut [u64])
     requires { ⌜ length (now narrow) ≡ length (now row) ⌝ }
     ensures { λ r. ⌜ now (row .exit) ≡ now (narrow .entry) ⌝ }
 {

@@ -1,6 +1,7 @@
-// Boxes of width 2 along a row, modulo 2^64, several in one sweep: what each of them adds next is carried.
+// Boxes of width 2 along a row, modulo 2^64, several in one sweep: what each of them adds next is
+// carried.
 ghost use mathlib.Core.Path.{_≡_};
-ghost use Prim.Native.Nat.{_^_, _<_};
+ghost use Prim.Native.Nat.{_^_};
 ghost use Rattle.along.specs.Private.{repeat, paired};
 
 fn pair(row: &mut [u64])
@@ -48,46 +49,21 @@ fn four(row: &mut [u64])
     }
 }
 
-// Four at a time. Returns how many are left.
-fn fours(count: usize, row: &mut [u64]) -> usize
-    ensures { λ r. ⌜ (r < 4) × (repeat r (paired (2 ^ 64)) (now (row .exit)) ≡ repeat count (paired (2 ^ 64)) (now (row .entry))) ⌝ }
-{
-    let mut left = count;
-    while 4 <= left {
-        four(row);
-        left -= 4;
-    }
-    left
-}
-
-// One, or none.
-fn last_pair(count: usize, row: &mut [u64])
-    requires { ⌜ count < 2 ⌝ }
-    ensures { λ r. ⌜ now (row .exit) ≡ repeat count (paired (2 ^ 64)) (now (row .entry)) ⌝ }
-{
-    if count == 0 {
-        return;
-    }
-    pair(row);
-}
-
-// Up to three.
-fn last_pairs(count: usize, row: &mut [u64])
-    requires { ⌜ count < 4 ⌝ }
-    ensures { λ r. ⌜ now (row .exit) ≡ repeat count (paired (2 ^ 64)) (now (row .entry)) ⌝ }
-{
-    if count < 2 {
-        last_pair(count, row);
-        return;
-    }
-    two(row);
-    last_pair(count - 2, row);
-}
-
-// So many boxes of width 2.
+// So many boxes of width 2, four in a sweep, then two, then one.
 pub(crate) fn pairs(count: usize, row: &mut [u64])
     ensures { λ r. ⌜ now (row .exit) ≡ repeat count (paired (2 ^ 64)) (now (row .entry)) ⌝ }
 {
-    let left = fours(count, row);
-    last_pairs(left, row);
+    let mut left = count;
+    while 0 < left {
+        if 4 <= left {
+            four(row);
+            left -= 4;
+        } else if 2 <= left {
+            two(row);
+            left -= 2;
+        } else {
+            pair(row);
+            left -= 1;
+        }
+    }
 }

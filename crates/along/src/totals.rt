@@ -1,4 +1,5 @@
-// Running totals along a row, modulo 2^64, up to three in one sweep. The first are taken from the row in 16 bits.
+// Running totals along a row, modulo 2^64, up to three in one sweep. The first are taken from the row in
+// 16 bits.
 ghost use mathlib.Core.Path.{_≡_};
 ghost use Prim.Native.Nat.{_%_, _^_, _<_};
 ghost use lib.ListN.{length};
@@ -63,35 +64,20 @@ fn three(row: &mut [u64])
     }
 }
 
-// Three at a time. Returns how many are left.
-fn threes(count: usize, row: &mut [u64]) -> usize
-    ensures { λ r. ⌜ repeat r totalled (now (row .exit)) ≡ repeat count totalled (now (row .entry)) ⌝ }
-{
-    let mut left = count;
-    while 3 <= left {
-        three(row);
-        left -= 3;
-    }
-    left
-}
-
-// One at a time.
-fn ones(count: usize, row: &mut [u64])
+// Running totals so many times, three in a sweep and then one.
+fn rest(count: usize, row: &mut [u64])
     ensures { λ r. ⌜ now (row .exit) ≡ repeat count totalled (now (row .entry)) ⌝ }
 {
     let mut left = count;
     while 0 < left {
-        totals(row);
-        left -= 1;
+        if 3 <= left {
+            three(row);
+            left -= 3;
+        } else {
+            totals(row);
+            left -= 1;
+        }
     }
-}
-
-// So many times.
-fn rest(count: usize, row: &mut [u64])
-    ensures { λ r. ⌜ now (row .exit) ≡ repeat count totalled (now (row .entry)) ⌝ }
-{
-    let left = threes(count, row);
-    ones(left, row);
 }
 
 // The total of all values, and their running totals so many times.

@@ -13,8 +13,8 @@ least-requires c κs = search needs
 narrow-pairs-requires : tie.Need-narrow-pairs-requires
 narrow-pairs-requires c κs = search needs
 
-widen-requires : tie.Need-widen-requires
-widen-requires c κs = search needs
+extend-requires : tie.Need-extend-requires
+extend-requires c κs = search needs
 
 sub-pairs : tie.Need-sub-pairs
 sub-pairs c = search needs
@@ -34,7 +34,7 @@ returns c =
     let n = start .args .count in
     let few = c .before .before .before .before .before .before .before .before .before .before .before .before .before .least .ensures in
     c .before .before .pairs .ensures
-    ∙ ap (repeat _ (paired (2 ^ 64))) (c .before .before .before .before .before .before .widen .ensures ∙ c .before .before .before .before .before .before .before .before .before .before .before .narrow-pairs .ensures)
+    ∙ ap (repeat _ (paired (2 ^ 64))) (c .before .before .before .before .before .before .extend .ensures ∙ c .before .before .before .before .before .before .before .before .before .before .before .narrow-pairs .ensures)
     ∙ ap (λ fast. repeat (n - fast) (paired (2 ^ 64)) (repeat fast (paired (2 ^ 16)) (start .args .narrow .now))) few
 
 pub work-pairs-spec : {M : Type 1} → statement M
@@ -43,7 +43,7 @@ work-pairs-spec =
     (tie.spec
     least-requires
     narrow-pairs-requires
-    widen-requires
+    extend-requires
     sub-pairs
     pairs-requires
     same-length

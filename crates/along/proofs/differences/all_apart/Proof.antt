@@ -2,8 +2,8 @@
 -- Assumes nothing.
 use Rattle.spec.specs.Recipe.{widths}
 use Rattle.filter.proofs.Widths.{length-widths, widths-on}
-use Rattle.along.specs.Private.{widened}
-use Rattle.along.proofs.Boxes.{widened-next, widened-all}
+use Rattle.along.specs.Private.{wideBoxes}
+use Rattle.along.proofs.Boxes.{wide-boxes-next, wide-boxes-all}
 use mathlib.Core.Path.{_≡_, refl, sym, ap, _∙_}
 use mathlib.Core.List.{_∷_}
 use Prim.Native.Nat.{suc, _-_, _≤_}
@@ -15,7 +15,7 @@ use Rattle.along.proofs.differences.all_apart.Tie as tie
 
 abbrev Inv-loop : tie.InvT-loop
 Inv-loop row₀ list count i₀ row i =
-    (count ≡ list .count) × (length row ≡ length row₀) × (i ≤ count) × (widened (drop i (widths list)) row ≡ widened (widths list) row₀)
+    (count ≡ list .count) × (length row ≡ length row₀) × (i ≤ count) × (wideBoxes (drop i (widths list)) row ≡ wideBoxes (widths list) row₀)
 
 abbrev μ-loop : tie.MeasureT-loop
 μ-loop row₀ list count i₀ row i = count - i
@@ -45,7 +45,7 @@ loop-again c =
     let n = c .before .before .before .before .width-at in
     let did = c .before .before .apart-if-wide in
     let next = widths-on list (turn .i) (omega arith) ∙ ap (λ m. m ∷ drop (suc (turn .i)) (widths list)) (sym (n .ensures)) in
-    (turn .inv .0, did .kept .1 .0 ∙ turn .inv .1, search needs, widened-next (widths list) (turn .i) (n .result) _ _ _ next (did .ensures) (turn .inv .3))
+    (turn .inv .0, did .kept .1 .0 ∙ turn .inv .1, search needs, wide-boxes-next (widths list) (turn .i) (n .result) _ _ _ next (did .ensures) (turn .inv .3))
 
 same-length : tie.Need-same-length Inv-loop μ-loop
 same-length c = search needs
@@ -54,7 +54,7 @@ returns : tie.Need-returns Inv-loop μ-loop
 returns c =
     let turn = c .before .loop in
     let list = c .before .before .before .args .t1 in
-    widened-all (widths list) (turn .i) _ _ (omega (arith, length-widths list, turn .inv .0)) (turn .inv .3)
+    wide-boxes-all (widths list) (turn .i) _ _ (omega (arith, length-widths list, turn .inv .0)) (turn .inv .3)
 
 pub all-apart-spec : {M : Type 1} → statement M
 all-apart-spec =

@@ -3,12 +3,11 @@
 use Rattle.laws.proofs.Kernels.{at}
 use Rattle.laws.proofs.Slices.{Rightwards, rightwards-none, rightwards-more, mixed-early}
 use Rattle.laws.proofs.Lists.{getD-tab}
-use lib.ListN.{getD-replicate, List·getD-eq-default}
+use lib.ListN.{getD-replicate, List·getD-eq-default, length, getD, length-set}
 use mathlib.Core.Path.{_≡_, sym, ap, _∙_}
 use Prim.Native.Nat.{_-_, _≤_}
 use native.Mathlib.Omega.{arith}
 use borrow.Author.Needs.{needs}
-use lib.ListN.{length, getD, length-set}
 use Rattle.along.proofs.narrow.load.Statement.{statement}
 use Rattle.along.proofs.narrow.load.Tie as tie
 

@@ -1,22 +1,87 @@
--- `along::pairs::pairs` meets its contract: what is left after the first of them.
+-- `along::pairs::pairs` meets its contract: what is left to do gives what all of it gives.
 -- Assumes nothing.
-use mathlib.Core.Path.{_∙_}
-use Prim.Native.Nat.{_-_}
+use Rattle.along.specs.Private.{repeat, paired}
+use Rattle.along.proofs.Rows.{repeat-less, repeat-none, repeat-once}
+use mathlib.Core.Path.{_≡_, refl, sym, _∙_}
+use Prim.Native.Nat.{_-_, _^_}
+use native.Mathlib.Omega.{arith}
 use borrow.Author.Needs.{needs}
+use lib.ListN.{length}
 use Rattle.along.proofs.pairs.pairs.Statement.{statement}
 use Rattle.along.proofs.pairs.pairs.Tie as tie
 
-fours-requires : tie.Need-fours-requires
-fours-requires c κs = search needs
+abbrev Inv-loop : tie.InvT-loop
+Inv-loop count row₀ left₀ row left = (length row ≡ length row₀) × (repeat left (paired (2 ^ 64)) row ≡ repeat count (paired (2 ^ 64)) row₀)
 
-last-pairs-requires : tie.Need-last-pairs-requires
-last-pairs-requires c κs = search needs
+abbrev μ-loop : tie.MeasureT-loop
+μ-loop count row₀ left₀ row left = left
 
-same-length : tie.Need-same-length
+loop-holds : tie.Need-loop-holds Inv-loop μ-loop
+loop-holds c = (search needs, refl)
+
+four-requires : tie.Need-four-requires Inv-loop μ-loop
+four-requires c κs = search needs
+
+loop-less : tie.Need-loop-less Inv-loop μ-loop
+loop-less c = search needs
+
+loop-again : tie.Need-loop-again Inv-loop μ-loop
+loop-again c =
+    let turn = c .before .before .before .before .before .before .loop in
+    let did = c .before .before .four in
+    (did .kept .0 ∙ turn .inv .0, repeat-less (paired (2 ^ 64)) 4 (turn .left) _ _ _ (omega arith) (did .ensures) (turn .inv .1))
+
+two-requires : tie.Need-two-requires Inv-loop μ-loop
+two-requires c κs = search needs
+
+loop-less-2 : tie.Need-loop-less-2 Inv-loop μ-loop
+loop-less-2 c = search needs
+
+loop-again-2 : tie.Need-loop-again-2 Inv-loop μ-loop
+loop-again-2 c =
+    let turn = c .before .before .before .before .before .before .before .loop in
+    let did = c .before .before .two in
+    (did .kept .0 ∙ turn .inv .0, repeat-less (paired (2 ^ 64)) 2 (turn .left) _ _ _ (omega arith) (did .ensures) (turn .inv .1))
+
+pair-requires : tie.Need-pair-requires Inv-loop μ-loop
+pair-requires c κs = search needs
+
+sub-left : tie.Need-sub-left Inv-loop μ-loop
+sub-left c = search needs
+
+loop-less-3 : tie.Need-loop-less-3 Inv-loop μ-loop
+loop-less-3 c = search needs
+
+loop-again-3 : tie.Need-loop-again-3 Inv-loop μ-loop
+loop-again-3 c =
+    let turn = c .before .before .before .before .before .before .before .loop in
+    let did = c .before .before .pair in
+    (did .kept .0 ∙ turn .inv .0, repeat-less (paired (2 ^ 64)) 1 (turn .left) _ _ _ (omega arith) (did .ensures ∙ repeat-once (paired (2 ^ 64)) 1 _ refl) (turn .inv .1))
+
+same-length : tie.Need-same-length Inv-loop μ-loop
 same-length c = search needs
 
-returns : tie.Need-returns
-returns c = c .before .before .last-pairs .ensures ∙ c .before .before .before .before .before .before .fours .ensures .1
+returns : tie.Need-returns Inv-loop μ-loop
+returns c =
+    let turn = c .before .loop in
+    sym (repeat-none (paired (2 ^ 64)) (turn .left) _ (omega arith)) ∙ turn .inv .1
 
 pub pairs-spec : {M : Type 1} → statement M
-pairs-spec = tie.close (tie.spec fours-requires last-pairs-requires same-length returns)
+pairs-spec =
+    tie.close
+    (tie.spec
+    Inv-loop
+    μ-loop
+    loop-holds
+    four-requires
+    loop-less
+    loop-again
+    two-requires
+    loop-less-2
+    loop-again-2
+    pair-requires
+    sub-left
+    loop-less-3
+    loop-again-3
+    same-length
+    returns)

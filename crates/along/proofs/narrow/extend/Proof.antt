@@ -1,4 +1,4 @@
--- `along::narrow::widen` meets its contract: entries are written from the left.
+-- `along::narrow::extend` meets its contract: entries are written from the left.
 -- Assumes nothing.
 use Rattle.laws.proofs.Kernels.{at}
 use Rattle.laws.proofs.Slices.{Rightwards, rightwards-none, rightwards-more, rightwards-all}
@@ -9,8 +9,8 @@ use Prim.Native.Nat.{_-_, _≤_}
 use native.Mathlib.Omega.{arith}
 use borrow.Author.Needs.{needs}
 use lib.ListN.{length, length-set}
-use Rattle.along.proofs.narrow.widen.Statement.{statement}
-use Rattle.along.proofs.narrow.widen.Tie as tie
+use Rattle.along.proofs.narrow.extend.Statement.{statement}
+use Rattle.along.proofs.narrow.extend.Tie as tie
 
 abbrev Inv-loop : tie.InvT-loop
 Inv-loop narrow row₀ k₀ k-end row k = (k-end ≡ length row₀) × (length row ≡ length row₀) × (k ≤ k-end) × Rightwards (at narrow) row₀ k row
@@ -66,8 +66,8 @@ returns c =
     let old = start .args .row .now in
     rightwards-all (at xs) old (c .before .loop .inv .3) (omega arith) ∙ ap (λ n. tab n (at xs)) (sym (start .pre)) ∙ tab-getD 0 xs
 
-pub widen-spec : {M : Type 1} → statement M
-widen-spec =
+pub extend-spec : {M : Type 1} → statement M
+extend-spec =
     tie.close
     (tie.spec
     Inv-loop
