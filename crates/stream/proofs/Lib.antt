@@ -8,6 +8,9 @@ pub mod RowList
 pub mod Left
 pub mod Kept
 pub mod Groups
+pub mod Runs
+pub mod Acting
+pub mod Blocks
 pub mod Sweeps
 pub mod States
 pub mod Loading

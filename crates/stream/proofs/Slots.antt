@@ -8,7 +8,7 @@ use native.Mathlib.Omega.{arith}
 use lib.ListN.{length, getD, take, drop}
 use Rattle.spec.specs.Words.{tab}
 use Rattle.laws.proofs.Lists.{length-tab, getD-tab}
-use Rattle.laws.proofs.Slices.{Mixed, mixed-front, mixed-back, patched, length-patched, patched-inside, patched-before, patched-after, patched-none, patched-all}
+use Rattle.laws.proofs.Slices.{patched, length-patched, patched-inside, patched-before, patched-after}
 use Rattle.stream.specs.Stages.{slotTotal}
 
 module _ (before oldest : ℕ) (xs was : List ℕ) (h : oldest + length xs ≤ length was) where
@@ -33,31 +33,12 @@ module _ (before oldest : ℕ) (xs was : List ℕ) (h : oldest + length xs ≤ l
   unfolding new
   size = length-patched oldest totals was fits
 
-  pub begin : Mixed oldest new was was
-  unfolding new
-  begin = patched-none oldest totals was fits 0
-
-  pub end : (i : ℕ) (l : List ℕ) → Mixed (oldest + i) new was l → length xs ≤ i
-      → l ≡ take oldest was ++ (tab (length xs) (slotTotal before xs was) ++ drop (oldest + length xs) was)
-  unfolding new
-  end i l m g = patched-all oldest totals was fits 0 m (omega (arith, wide)) ∙ sym new-is
-
   -- the totals go to their places
   pub at-new : (i : ℕ) → i < length xs → getD new (oldest + i) 0 ≡ slotTotal before xs was i
   unfolding new totals
   at-new i g = patched-inside oldest totals was fits 0 i (omega (arith, wide)) ∙ getD-tab (length xs) (slotTotal before xs was) i 0 g
 
-  -- the slot before is not touched
-  pub apart : (before + length xs ≤ oldest) ⊎ (oldest + length xs ≤ before) → (i : ℕ) (l : List ℕ) → i < length xs → Mixed (oldest + i) new was l
-      → getD l (before + i) 0 ≡ getD was (before + i) 0
-  unfolding new
-  apart d i l g m =
-      ⊎-elim
-      (λ u. mixed-front 0 m (before + i) (omega arith) ∙ patched-before oldest totals was fits 0 (before + i) (omega arith))
-      (λ u. mixed-back 0 m (before + i) (omega arith))
-      d
-
-  -- nor is any other place outside the slot
+  -- no place outside the slot is touched
   pub beside : (k : ℕ) → (k < oldest) ⊎ (oldest + length xs ≤ k) → getD new k 0 ≡ getD was k 0
   unfolding new
   beside k d =

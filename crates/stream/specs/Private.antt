@@ -93,10 +93,10 @@ pub record Rings (w k cells : ℕ) (befores oldests : List ℕ) : Type 0 where
   pub room : total (λ n. w * boxCells n) widths ≡ cells
   pub slots : Slots w emitted widths befores oldests
 
--- the first k of some widths, which are worked together: a width below 2 alone, at most four of width 2, at most three wider ones
+-- the first k of some widths, which are worked together: a width below 2 alone, at most eight of width 2, at most three wider ones
 pub record Run (ns : List ℕ) (k : ℕ) : Type 0 where
   pub some : 0 < k
   pub inside : k ≤ length ns
   pub one : getD ns 0 0 < 2 → k ≡ 1
-  pub twos : getD ns 0 0 ≡ 2 → (k ≤ 4) × ((s : ℕ) → s < k → getD ns s 0 ≡ 2)
+  pub twos : getD ns 0 0 ≡ 2 → (k ≤ 8) × ((s : ℕ) → s < k → getD ns s 0 ≡ 2)
   pub wider : 2 < getD ns 0 0 → (k ≤ 3) × ((s : ℕ) → s < k → 2 < getD ns s 0)

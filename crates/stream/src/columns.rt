@@ -22,7 +22,7 @@ fn less(a: u64, b: u64) -> u64
     std::num::wrapping_sub_u64(a, b)
 }
 
-fn copy(from: &[u64], to: &mut [u64])
+fn copy_values(from: &[u64], to: &mut [u64])
     requires { ⌜ length (now from) ≡ length (now to) ⌝ }
     ensures { λ r. ⌜ now (to .exit) ≡ now (from .entry) ⌝ }
 {
@@ -46,7 +46,7 @@ fn pair(x: &mut [u64], own: &mut [u64])
 
 // The stages of a group of width 2 in turn, on the columns from `from` on.
 fn pairs_on(x: &mut [u64], count: usize, from: usize, width: usize, own: &mut [u64])
-    requires { ⌜ (count ≤ 4) × (width ≤ 1279) × (from + length (now x) ≤ width) × (length (now own) ≡ count * width) ⌝ }
+    requires { ⌜ (count ≤ 8) × (width ≤ 1279) × (from + length (now x) ≤ width) × (length (now own) ≡ count * width) ⌝ }
     ensures { λ r. let made = pairsFrom from width count (now (x .entry)) (now (own .entry)) in
         ⌜ (now (x .exit) ≡ made .row) × (now (own .exit) ≡ made .cells) ⌝ }
 {
@@ -60,7 +60,7 @@ fn pairs_on(x: &mut [u64], count: usize, from: usize, width: usize, own: &mut [u
 
 // A block of columns, at most eight.
 fn pair_block(count: usize, from: usize, few: usize, row: &mut [u64], own: &mut [u64])
-    requires { ⌜ (count ≤ 4) × (length (now row) ≤ 1279) × (few ≤ 8) × (from + few ≤ length (now row))
+    requires { ⌜ (count ≤ 8) × (length (now row) ≤ 1279) × (few ≤ 8) × (from + few ≤ length (now row))
         × (length (now own) ≡ count * length (now row)) ⌝ }
     ensures { λ r. let old = now (row .entry) in
         let made = pairsFrom from (length old) count (take few (drop from old)) (now (own .entry)) in
@@ -70,14 +70,14 @@ fn pair_block(count: usize, from: usize, few: usize, row: &mut [u64], own: &mut 
     let z: usize = 0;
     let to = from + few;
     let mut x = [0u64; 8];
-    copy(&row[from..to], &mut x[z..few]);
+    copy_values(&row[from..to], &mut x[z..few]);
     pairs_on(&mut x[z..few], count, from, width, own);
-    copy(&x[z..few], &mut row[from..to]);
+    copy_values(&x[z..few], &mut row[from..to]);
 }
 
 // A group of width 2.
 fn pairs(count: usize, row: &mut [u64], own: &mut [u64])
-    requires { ⌜ (count ≤ 4) × (length (now row) ≤ 1279) × (length (now own) ≡ count * length (now row)) ⌝ }
+    requires { ⌜ (count ≤ 8) × (length (now row) ≤ 1279) × (length (now own) ≡ count * length (now row)) ⌝ }
     ensures { λ r. let made = pairsFrom 0 (length (now (row .entry))) count (now (row .entry)) (now (own .entry)) in
         ⌜ (now (row .exit) ≡ made .row) × (now (own .exit) ≡ made .cells) ⌝ }
 {
@@ -168,9 +168,9 @@ fn ring_block(
     let z: usize = 0;
     let to = from + few;
     let mut x = [0u64; 8];
-    copy(&row[from..to], &mut x[z..few]);
+    copy_values(&row[from..to], &mut x[z..few]);
     rings_on(&mut x[z..few], count, from, befores, oldests, own);
-    copy(&x[z..few], &mut row[from..to]);
+    copy_values(&x[z..few], &mut row[from..to]);
 }
 
 // A group of wider ones.
@@ -224,9 +224,9 @@ fn three_block(
     let few: usize = 8;
     let to = from + few;
     let mut x = [0u64; 8];
-    copy(&row[from..to], &mut x[z..few]);
+    copy_values(&row[from..to], &mut x[z..few]);
     three_on(&mut x[z..few], from, befores, oldests, own);
-    copy(&x[z..few], &mut row[from..to]);
+    copy_values(&x[z..few], &mut row[from..to]);
 }
 
 // A group of three wider ones.
@@ -259,7 +259,7 @@ fn wider(count: usize, befores: &[usize; 3], oldests: &[usize; 3], row: &mut [u6
 
 // How many widths from a place on, the first of them included, lie between two bounds; not more than `longest`.
 fn alike(list: Cascade, from: usize, least: u8, most: u8, longest: usize) -> usize
-    requires { ⌜ (0 < least) × (0 < longest) × (longest ≤ 4) × (from < list .count) × (list .count ≤ 48)
+    requires { ⌜ (0 < least) × (0 < longest) × (longest ≤ 8) × (from < list .count) × (list .count ≤ 48)
         × (least ≤ getD (widths list) from 0) × (getD (widths list) from 0 ≤ most) ⌝ }
     ensures { λ r. ⌜ (0 < r) × (r ≤ longest) × (from + r ≤ list .count)
         × ((s : ℕ) → s < r → (least ≤ getD (widths list) (from + s) 0) × (getD (widths list) (from + s) 0 ≤ most)) ⌝ }
@@ -288,7 +288,7 @@ fn run(list: Cascade, from: usize) -> usize
         return 1;
     }
     if n == 2 {
-        return alike(list, from, 2, 2, 4);
+        return alike(list, from, 2, 2, 8);
     }
     alike(list, from, 3, 255, 3)
 }

@@ -13,7 +13,7 @@ use Rattle.stream.proofs.columns.alike.Tie as tie
 
 abbrev Inv-loop : tie.InvT-loop
 Inv-loop from least most longest list k₀ k =
-    (0 < least) × (0 < k) × (k ≤ longest) × (longest ≤ 4) × (from + k ≤ list .count) × (list .count ≤ 48)
+    (0 < least) × (0 < k) × (k ≤ longest) × (longest ≤ 8) × (from + k ≤ list .count) × (list .count ≤ 48)
     × ((s : ℕ) → s < k → (least ≤ getD (widths list) (from + s) 0) × (getD (widths list) (from + s) 0 ≤ most))
 
 abbrev μ-loop : tie.MeasureT-loop

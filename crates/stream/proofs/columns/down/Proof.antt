@@ -3,16 +3,17 @@
 use native.Mathlib.Nat.{mul-le-mul, le-trans, le-of-eq}
 use Rattle.spec.specs.Words.{total}
 use Rattle.spec.specs.Recipe.{widths}
-use Rattle.spec.specs.Stream.{boxCells, boxCost, cascadeCells, cascadeCost}
+use Rattle.spec.specs.Stream.{boxCost, cascadeCost}
 use Rattle.filter.proofs.Widths.{length-widths}
 use Rattle.laws.proofs.Slices.{length-lent}
 use Rattle.stream.specs.Stages.{Worked, columnStage, stages}
 use Rattle.stream.proofs.Boxes.{cascade-small}
-use Rattle.stream.proofs.Groups.{Done, done-none, done-length, done-room, done-count, done-more, done-all, run-inside}
-use Rattle.stream.proofs.Sweeps.{cellsOf, columns-keep, group-size}
+use Rattle.stream.proofs.Groups.{Done, done-none, done-length, done-room, done-count, done-more, done-all}
+use Rattle.stream.proofs.Runs.{run-inside}
+use Rattle.stream.proofs.Blocks.{cellsOf}
+use Rattle.stream.proofs.Sweeps.{columns-keep, group-size}
 use mathlib.Core.Path.{_≡_, refl, sym, ap, ap₂, _∙_}
-use mathlib.Core.List.{_++_}
-use Prim.Native.Nat.{ℕ, _+_, _-_, _*_, _≤_, _<_}
+use Prim.Native.Nat.{_+_, _-_, _*_, _≤_}
 use native.Mathlib.Omega.{arith}
 use borrow.Author.Needs.{needs}
 use lib.ListN.{length, take, drop}

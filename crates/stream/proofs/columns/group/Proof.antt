@@ -3,14 +3,14 @@
 use native.Mathlib.Nat.{mul-zero, mul-comm, mul-assoc, mul-le-mul}
 use Rattle.spec.specs.Words.{total}
 use Rattle.spec.specs.Recipe.{widths}
-use Rattle.spec.specs.Stream.{boxCost, cascadeCells, cascadeCost}
+use Rattle.spec.specs.Stream.{boxCost, cascadeCost}
 use Rattle.filter.proofs.Widths.{length-widths}
 use Rattle.stream.specs.Stages.{Worked, columnStage, stages}
 use Rattle.stream.proofs.Boxes.{cost-one, two-less}
-use Rattle.stream.proofs.Groups.{run-inside, run-counted, run-idle, run-pairs, run-rings}
-use Rattle.stream.proofs.Sweeps.{cellsOf, column-idle, column-pairs, column-rings, pairs-size, group-size}
+use Rattle.stream.proofs.Runs.{run-inside, run-counted, run-idle, run-pairs, run-rings}
+use Rattle.stream.proofs.Blocks.{cellsOf}
+use Rattle.stream.proofs.Sweeps.{column-idle, column-pairs, column-rings, pairs-size, group-size}
 use mathlib.Core.Path.{_≡_, refl, sym, ap, subst, _∙_}
-use mathlib.Core.List.{List}
 use Prim.Native.Nat.{ℕ, _+_, _*_, _≤_, _<_}
 use native.Mathlib.Omega.{arith}
 use lib.ListN.{length, getD, take, drop}
@@ -46,7 +46,7 @@ mul-places c = record { fits = omega (arith, few (c .before)) }
 
 -- a group of width 2
 two : (c : tie.After-width-at) → let a = c .before .before .before .before .before .before .args in c .width-at .result ≡ 2
-    → (a .count ≤ 4) × ((s : ℕ) → s < length (take (a .count) (drop (a .from) (widths (a .t1)))) → getD (take (a .count) (drop (a .from) (widths (a .t1)))) s 0 ≡ 2)
+    → (a .count ≤ 8) × ((s : ℕ) → s < length (take (a .count) (drop (a .from) (widths (a .t1)))) → getD (take (a .count) (drop (a .from) (widths (a .t1)))) s 0 ≡ 2)
     × (length (a .own .now) ≡ a .count * length (a .row .now))
 two c h =
     let start = c .before .before .before .before .before .before in

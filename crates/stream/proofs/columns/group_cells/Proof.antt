@@ -7,7 +7,7 @@ use Rattle.filter.proofs.Widths.{length-widths}
 use Rattle.laws.proofs.Lists.{total-more}
 use lib.Seq.{getD-drop}
 use mathlib.Core.Path.{_≡_, refl, sym, ap, ap₂, _∙_}
-use Prim.Native.Nat.{_+_, _-_, _*_, _≤_, _<_}
+use Prim.Native.Nat.{_+_, _-_, _*_, _≤_}
 use native.Mathlib.Omega.{arith}
 use borrow.Author.Needs.{needs}
 use lib.ListN.{take, drop, length-drop}

@@ -5,7 +5,7 @@ use Rattle.stream.specs.Private.{pairsFrom}
 use Rattle.stream.proofs.Sweeps.{Swept, swept-none, swept-length, swept-more, swept-all, pairs-sweep}
 use mathlib.Core.Path.{_≡_, refl, sym, ap, _∙_}
 use mathlib.Core.List.{_++_}
-use Prim.Native.Nat.{_+_, _-_, _*_, _≤_, _<_}
+use Prim.Native.Nat.{_+_, _-_, _*_, _≤_}
 use native.Mathlib.Omega.{arith}
 use borrow.Author.Needs.{needs}
 use lib.ListN.{length, take, drop}

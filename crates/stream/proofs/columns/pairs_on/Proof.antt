@@ -1,15 +1,15 @@
 -- `stream::columns::pairs_on` meets its contract: after each turn, the stages so far.
 -- Assumes nothing.
-use native.Mathlib.Nat.{mul-le-mul, le-refl, suc-mul}
+use native.Mathlib.Nat.{mul-le-mul, suc-mul}
 use native.Mathlib.Numerals.{add-one}
 use Rattle.laws.proofs.Numbers.{row-fits}
-use Rattle.stream.specs.Stages.{Worked, columnPair}
+use Rattle.stream.specs.Stages.{Worked}
 use Rattle.stream.specs.Private.{inTurn, pairAt, pairsFrom}
-use Rattle.stream.proofs.Sweeps.{pair-lent}
+use Rattle.stream.proofs.Acting.{pair-lent}
 use lib.Seq.{length-take-le}
 use mathlib.Core.Path.{_≡_, refl, sym, ap, ap₂, _∙_}
 use mathlib.Core.List.{List, _++_}
-use Prim.Native.Nat.{ℕ, suc, _+_, _-_, _*_, _≤_, _<_}
+use Prim.Native.Nat.{ℕ, suc, _+_, _-_, _*_, _≤_}
 use native.Mathlib.Omega.{arith}
 use borrow.Author.Needs.{needs}
 use lib.ListN.{length, take, drop, length-drop}
@@ -18,7 +18,7 @@ use Rattle.stream.proofs.columns.pairs_on.Tie as tie
 
 abbrev Inv-loop : tie.InvT-loop
 Inv-loop x₀ count from width own₀ at₀ s₀ x own at s =
-    (count ≤ 4) × (width ≤ 1279) × (from + length x₀ ≤ width) × (length own₀ ≡ count * width) × (length x ≡ length x₀) × (length own ≡ length own₀) × (s ≤ count)
+    (count ≤ 8) × (width ≤ 1279) × (from + length x₀ ≤ width) × (length own₀ ≡ count * width) × (length x ≡ length x₀) × (length own ≡ length own₀) × (s ≤ count)
     × (at ≡ s * width + from) × (x ≡ pairsFrom from width s x₀ own₀ .row) × (own ≡ pairsFrom from width s x₀ own₀ .cells)
 
 abbrev μ-loop : tie.MeasureT-loop
@@ -34,13 +34,13 @@ loop-holds c =
 inside : (c : tie.In-loop Inv-loop μ-loop) → let turn = c .before .loop in let a = c .before .before .before .before .args in
     record {
       here : turn .at + length (turn .x) ≤ length (turn .own);
-      small : turn .at + a .width ≤ 5 * 1279;
+      small : turn .at + a .width ≤ 9 * 1279;
     }
 inside c =
     let turn = c .before .loop in
     let a = c .before .before .before .before .args in
     let more : turn .s * a .width + a .width ≤ a .count * a .width = row-fits (a .width) (turn .s) (a .count) (search needs) in
-    let most : a .count * a .width ≤ 4 * 1279 = mul-le-mul (turn .inv .0) (turn .inv .1) in
+    let most : a .count * a .width ≤ 8 * 1279 = mul-le-mul (turn .inv .0) (turn .inv .1) in
     record { here = omega (arith, turn .inv .2, turn .inv .3, turn .inv .7); small = omega (arith, turn .inv .2, turn .inv .7) }
 
 add-to : tie.Need-add-to Inv-loop μ-loop

@@ -1,10 +1,10 @@
 -- `stream::columns::ring` meets its contract: the totals first, then what is left of them.
 -- Assumes nothing.
 use Rattle.laws.proofs.Lists.{length-tab}
-use Rattle.stream.proofs.Sweeps.{slot-lent, length-array}
-use mathlib.Core.Path.{_≡_, refl, ap, _∙_}
-use mathlib.Core.List.{List, _++_}
-use Prim.Native.Nat.{ℕ, _+_, _-_, _≤_, _<_}
+use Rattle.stream.proofs.Acting.{slot-lent, length-array}
+use mathlib.Core.Path.{_≡_, ap, _∙_}
+use mathlib.Core.List.{_++_}
+use Prim.Native.Nat.{_+_, _-_}
 use native.Mathlib.Omega.{arith}
 use lib.ListN.{length, drop, replicate}
 use borrow.Author.Needs.{needs}

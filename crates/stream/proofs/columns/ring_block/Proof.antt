@@ -1,13 +1,12 @@
 -- `stream::columns::ring_block` meets its contract: the values go into an array, are worked there, and come back.
 -- Assumes nothing.
 use lib.Seq.{length-take-le}
-use Rattle.laws.proofs.Slices.{length-lent}
 use Rattle.stream.specs.Private.{ringsFrom}
-use Rattle.stream.proofs.Sweeps.{length-array, block-long, block-out}
-use mathlib.Core.Path.{_≡_, sym, ap, _∙_}
+use Rattle.stream.proofs.Acting.{length-array, block-long, block-out}
+use mathlib.Core.Path.{_≡_, _∙_}
 use mathlib.Core.List.{List, _++_}
 use mathlib.Core.Logic.{inl, inr, ⊎-elim}
-use Prim.Native.Nat.{ℕ, _+_, _-_, _≤_, _<_}
+use Prim.Native.Nat.{ℕ, _+_, _-_}
 use native.Mathlib.Omega.{arith}
 use lib.ListN.{length, take, drop, replicate}
 use borrow.Author.Needs.{needs}
@@ -17,23 +16,23 @@ use Rattle.stream.proofs.columns.ring_block.Tie as tie
 add-to : tie.Need-add-to
 add-to c = search needs
 
-mul-copy : tie.Need-mul-copy
-mul-copy c = search needs
+mul-copy-values : tie.Need-mul-copy-values
+mul-copy-values c = search needs
 
-sub-copy : tie.Need-sub-copy
-sub-copy c = search needs
+sub-copy-values : tie.Need-sub-copy-values
+sub-copy-values c = search needs
 
-part-copy-start : tie.Need-part-copy-start
-part-copy-start c = search needs
+part-copy-values-start : tie.Need-part-copy-values-start
+part-copy-values-start c = search needs
 
-part-copy-end : tie.Need-part-copy-end
-part-copy-end c = search needs
+part-copy-values-end : tie.Need-part-copy-values-end
+part-copy-values-end c = search needs
 
 mul-x : tie.Need-mul-x
 mul-x c = search needs
 
-sub-copy-2 : tie.Need-sub-copy-2
-sub-copy-2 c = search needs
+sub-copy-values-2 : tie.Need-sub-copy-values-2
+sub-copy-values-2 c = search needs
 
 part-x-start : tie.Need-part-x-start
 part-x-start c = search needs
@@ -41,8 +40,8 @@ part-x-start c = search needs
 part-x-end : tie.Need-part-x-end
 part-x-end c = search needs
 
-copy-requires : tie.Need-copy-requires
-copy-requires c κs = search needs
+copy-values-requires : tie.Need-copy-values-requires
+copy-values-requires c κs = search needs
 
 mul-x-2 : tie.Need-mul-x-2
 mul-x-2 c = search needs
@@ -54,18 +53,18 @@ part-x-start-2 : tie.Need-part-x-start-2
 part-x-start-2 c = search needs
 
 -- the array with the values
-abbrev filled : (c : tie.After-copy) → List ℕ
-filled c = c .copy .last .1 .0 ++ drop (c .before .before .before .before .before .before .args .few - 0) (replicate 8 0)
+abbrev filled : (c : tie.After-copy-values) → List ℕ
+filled c = c .copy-values .last .1 .0 ++ drop (c .before .before .before .before .before .before .args .few - 0) (replicate 8 0)
 
-filled-long : (c : tie.After-copy) → length (filled c) ≡ 8
+filled-long : (c : tie.After-copy-values) → length (filled c) ≡ 8
 filled-long c =
     let start = c .before .before .before .before .before .before in
     let a = start .args in
-    length-array (a .few) (c .copy .last .1 .0) (replicate 8 0)
-    (block-long (ringsFrom (a .from) (a .befores .now) (a .oldests .now) (a .count)) (a .from) (a .few) (a .row .now) (a .own .now) (drop (a .few - 0) (replicate 8 0)) (start .pre .2) _ (c .copy .ensures))
+    length-array (a .few) (c .copy-values .last .1 .0) (replicate 8 0)
+    (block-long (ringsFrom (a .from) (a .befores .now) (a .oldests .now) (a .count)) (a .from) (a .few) (a .row .now) (a .own .now) (drop (a .few - 0) (replicate 8 0)) (start .pre .2) _ (c .copy-values .ensures))
     (start .pre .1)
 
-few-long : (c : tie.After-copy) → length (take (c .before .before .before .before .before .before .args .few - 0) (filled c)) ≡ c .before .before .before .before .before .before .args .few
+few-long : (c : tie.After-copy-values) → length (take (c .before .before .before .before .before .before .args .few - 0) (filled c)) ≡ c .before .before .before .before .before .before .args .few
 few-long c =
     let start = c .before .before .before .before .before .before in
     let n : start .args .few - 0 ≡ start .args .few = omega arith in
@@ -91,14 +90,14 @@ rings-on-requires c κs =
           },
     )
 
-mul-copy-2 : tie.Need-mul-copy-2
-mul-copy-2 c = search needs
+mul-copy-values-2 : tie.Need-mul-copy-values-2
+mul-copy-values-2 c = search needs
 
-sub-copy-3 : tie.Need-sub-copy-3
-sub-copy-3 c = search needs
+sub-copy-values-3 : tie.Need-sub-copy-values-3
+sub-copy-values-3 c = search needs
 
-part-copy-start-2 : tie.Need-part-copy-start-2
-part-copy-start-2 c = search needs
+part-copy-values-start-2 : tie.Need-part-copy-values-start-2
+part-copy-values-start-2 c = search needs
 
 -- the array with what is made of them
 abbrev made : (c : tie.After-rings-on) → List ℕ
@@ -114,25 +113,25 @@ made-long c =
     length-array (start .args .few) (c .rings-on .last .0) (filled before) (made-few c) (omega (arith, filled-long before, start .pre .1))
     ∙ filled-long before
 
-part-copy-end-2 : tie.Need-part-copy-end-2
-part-copy-end-2 c =
+part-copy-values-end-2 : tie.Need-part-copy-values-end-2
+part-copy-values-end-2 c =
     let start = c .before .before .before .before .before .before .before .before .before .before .before .before .before .before in
     omega (arith, made-long (c .before .before .before .before), start .pre .1)
 
-mul-copy-3 : tie.Need-mul-copy-3
-mul-copy-3 c = search needs
+mul-copy-values-3 : tie.Need-mul-copy-values-3
+mul-copy-values-3 c = search needs
 
-sub-copy-4 : tie.Need-sub-copy-4
-sub-copy-4 c = search needs
+sub-copy-values-4 : tie.Need-sub-copy-values-4
+sub-copy-values-4 c = search needs
 
-part-copy-start-3 : tie.Need-part-copy-start-3
-part-copy-start-3 c = search needs
+part-copy-values-start-3 : tie.Need-part-copy-values-start-3
+part-copy-values-start-3 c = search needs
 
-part-copy-end-3 : tie.Need-part-copy-end-3
-part-copy-end-3 c = search needs
+part-copy-values-end-3 : tie.Need-part-copy-values-end-3
+part-copy-values-end-3 c = search needs
 
-copy-requires-2 : tie.Need-copy-requires-2
-copy-requires-2 c κs = search needs
+copy-values-requires-2 : tie.Need-copy-values-requires-2
+copy-values-requires-2 c κs = search needs
 
 same-length : tie.Need-same-length
 same-length c = search needs
@@ -145,37 +144,37 @@ returns c =
     let start = c .before .before .before .before .before .before .before .before .before .before .before .before .before .before .before .before .before .before .before in
     let a = start .args in
     let m = c .before .before .before .before .before .before .before .before .before .rings-on in
-    block-out (ringsFrom (a .from) (a .befores .now) (a .oldests .now) (a .count)) (a .from) (a .few) (a .row .now) (a .own .now) (drop (a .few - 0) (replicate 8 0)) (start .pre .2) _ (c .before .before .before .before .before .before .before .before .before .before .before .before .before .copy .ensures)
-    (m .last .0) (m .last .1 .1 .1 .1 .1 .0) (drop (a .few - 0) (filled (c .before .before .before .before .before .before .before .before .before .before .before .before .before))) _ (made-few (c .before .before .before .before .before .before .before .before .before)) (m .ensures .0) (m .ensures .1) (c .before .before .copy2 .ensures)
+    block-out (ringsFrom (a .from) (a .befores .now) (a .oldests .now) (a .count)) (a .from) (a .few) (a .row .now) (a .own .now) (drop (a .few - 0) (replicate 8 0)) (start .pre .2) _ (c .before .before .before .before .before .before .before .before .before .before .before .before .before .copy-values .ensures)
+    (m .last .0) (m .last .1 .1 .1 .1 .1 .0) (drop (a .few - 0) (filled (c .before .before .before .before .before .before .before .before .before .before .before .before .before))) _ (made-few (c .before .before .before .before .before .before .before .before .before)) (m .ensures .0) (m .ensures .1) (c .before .before .copy-values2 .ensures)
 
 pub ring-block-spec : {M : Type 1} → statement M
 ring-block-spec =
     tie.close
     (tie.spec
     add-to
-    mul-copy
-    sub-copy
-    part-copy-start
-    part-copy-end
+    mul-copy-values
+    sub-copy-values
+    part-copy-values-start
+    part-copy-values-end
     mul-x
-    sub-copy-2
+    sub-copy-values-2
     part-x-start
     part-x-end
-    copy-requires
+    copy-values-requires
     mul-x-2
     sub-rings-on
     part-x-start-2
     part-x-end-2
     rings-on-requires
-    mul-copy-2
-    sub-copy-3
-    part-copy-start-2
-    part-copy-end-2
-    mul-copy-3
-    sub-copy-4
-    part-copy-start-3
-    part-copy-end-3
-    copy-requires-2
+    mul-copy-values-2
+    sub-copy-values-3
+    part-copy-values-start-2
+    part-copy-values-end-2
+    mul-copy-values-3
+    sub-copy-values-4
+    part-copy-values-start-3
+    part-copy-values-end-3
+    copy-values-requires-2
     same-length
     same-length-2
     returns)

@@ -5,7 +5,7 @@ use Rattle.stream.specs.Private.{Apart, ringsFrom}
 use Rattle.stream.proofs.Sweeps.{Swept, swept-none, swept-length, swept-more, swept-all, rings-sweep, slots-inside}
 use mathlib.Core.Path.{_≡_, refl, sym, ap, subst, _∙_}
 use mathlib.Core.List.{_++_}
-use Prim.Native.Nat.{_+_, _-_, _*_, _≤_, _<_}
+use Prim.Native.Nat.{_+_, _-_, _≤_}
 use native.Mathlib.Omega.{arith}
 use borrow.Author.Needs.{needs}
 use lib.ListN.{length, getD, take, drop}

@@ -4,9 +4,8 @@ use native.Mathlib.Numerals.{add-one}
 use Rattle.stream.specs.Stages.{Worked, columnSlot}
 use Rattle.stream.specs.Private.{Apart, inTurn, ringsFrom}
 use mathlib.Core.Path.{_≡_, refl, sym, ap, ap₂, _∙_}
-use mathlib.Core.List.{List}
 use mathlib.Core.Logic.{inl, inr, ⊎-elim}
-use Prim.Native.Nat.{ℕ, suc, _+_, _-_, _≤_, _<_}
+use Prim.Native.Nat.{ℕ, _+_, _-_, _≤_}
 use native.Mathlib.Omega.{arith}
 use borrow.Author.Needs.{needs}
 use lib.ListN.{length, getD}

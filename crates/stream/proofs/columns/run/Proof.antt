@@ -2,10 +2,7 @@
 -- Assumes nothing.
 use Rattle.filter.proofs.Widths.{length-widths}
 use Rattle.spec.specs.Recipe.{widths}
-use Rattle.stream.proofs.Boxes.{two-less}
-use Rattle.stream.proofs.Groups.{run-one, run-twos, run-wider}
-use mathlib.Core.Path.{_≡_}
-use Prim.Native.Nat.{_+_, _≤_, _<_}
+use Rattle.stream.proofs.Runs.{run-one, run-twos, run-wider}
 use native.Mathlib.Omega.{arith}
 use borrow.Author.Needs.{needs}
 use Rattle.stream.proofs.columns.run.Statement.{statement}

@@ -5,7 +5,7 @@ use Rattle.spec.specs.Recipe.{widths}
 use Rattle.filter.proofs.Widths.{length-widths}
 use Rattle.stream.specs.Stages.{slotBefore}
 use Rattle.stream.proofs.Rings.{slot-inside, before-inside}
-use Rattle.stream.proofs.Groups.{Placing, placing-none, placing-more, placing-all}
+use Rattle.stream.proofs.Runs.{Placing, placing-none, placing-more, placing-all}
 use lib.Seq.{getD-take, getD-drop, length-take-le}
 use mathlib.Core.Path.{_≡_, refl, sym, ap, subst, _∙_}
 use mathlib.Core.List.{List}

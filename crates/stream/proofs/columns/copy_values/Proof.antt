@@ -1,15 +1,13 @@
--- `stream::columns::copy` meets its contract: entries are written from the left.
+-- `stream::columns::copy_values` meets its contract: entries are written from the left.
 -- Assumes nothing.
-use native.Mathlib.Nat.{le-refl}
 use Rattle.laws.proofs.Slices.{Mixed, mixed-none, mixed-up, mixed-all}
-use mathlib.Core.Path.{_≡_, refl, sym, ap, ap₂, _∙_}
-use mathlib.Core.List.{List}
-use Prim.Native.Nat.{ℕ, _-_, _≤_, _<_}
+use mathlib.Core.Path.{_≡_}
+use Prim.Native.Nat.{_-_, _≤_, _<_}
 use native.Mathlib.Omega.{arith}
 use borrow.Author.Needs.{needs}
-use lib.ListN.{length, getD, length-set}
-use Rattle.stream.proofs.columns.copy.Statement.{statement}
-use Rattle.stream.proofs.columns.copy.Tie as tie
+use lib.ListN.{length, length-set}
+use Rattle.stream.proofs.columns.copy_values.Statement.{statement}
+use Rattle.stream.proofs.columns.copy_values.Tie as tie
 
 abbrev Inv-loop : tie.InvT-loop
 Inv-loop from to₀ k₀ k-end to k = (k-end ≡ length to₀) × (length from ≡ length to₀) × (length to ≡ length to₀) × (k ≤ k-end) × Mixed k from to₀ to
@@ -56,8 +54,8 @@ returns c =
     let turn = c .before .loop in
     mixed-all (turn .inv .4) (omega arith)
 
-pub copy-spec : {M : Type 1} → statement M
-copy-spec =
+pub copy-values-spec : {M : Type 1} → statement M
+copy-values-spec =
     tie.close
     (tie.spec
     Inv-loop
