@@ -10,7 +10,7 @@ const BLOCK: usize = 8;
 type Block = [u64; BLOCK];
 
 /// The most stages of width 2 in a group,
-const MOST_PAIRS: usize = 4;
+const MOST_PAIRS: usize = 8;
 /// and the most wider ones.
 const MOST_RINGS: usize = 3;
 
