@@ -22,6 +22,7 @@ fn less(a: u64, b: u64) -> u64
     std::num::wrapping_sub_u64(a, b)
 }
 
+// One slice over another of its length.
 fn copy_values(from: &[u64], to: &mut [u64])
     requires { ⌜ length (now from) ≡ length (now to) ⌝ }
     ensures { λ r. ⌜ now (to .exit) ≡ now (from .entry) ⌝ }
@@ -58,16 +59,17 @@ fn pairs_on(x: &mut [u64], count: usize, from: usize, width: usize, own: &mut [u
     }
 }
 
-// A block of columns, at most eight.
-fn pair_block(count: usize, from: usize, few: usize, row: &mut [u64], own: &mut [u64])
-    requires { ⌜ (count ≤ 8) × (length (now row) ≤ 1279) × (few ≤ 8) × (from + few ≤ length (now row))
+// A block of eight columns.
+fn pair_block(count: usize, from: usize, row: &mut [u64], own: &mut [u64])
+    requires { ⌜ (count ≤ 8) × (length (now row) ≤ 1279) × (from + 8 ≤ length (now row))
         × (length (now own) ≡ count * length (now row)) ⌝ }
     ensures { λ r. let old = now (row .entry) in
-        let made = pairsFrom from (length old) count (take few (drop from old)) (now (own .entry)) in
-        ⌜ (now (row .exit) ≡ take from old ++ (made .row ++ drop (from + few) old)) × (now (own .exit) ≡ made .cells) ⌝ }
+        let made = pairsFrom from (length old) count (take 8 (drop from old)) (now (own .entry)) in
+        ⌜ (now (row .exit) ≡ take from old ++ (made .row ++ drop (from + 8) old)) × (now (own .exit) ≡ made .cells) ⌝ }
 {
     let width = row.len();
     let z: usize = 0;
+    let few: usize = 8;
     let to = from + few;
     let mut x = [0u64; 8];
     copy_values(&row[from..to], &mut x[z..few]);
@@ -83,11 +85,11 @@ fn pairs(count: usize, row: &mut [u64], own: &mut [u64])
 {
     let mut from: usize = 0;
     while 8 <= row.len() - from {
-        pair_block(count, from, 8, row, own);
+        pair_block(count, from, row, own);
         from += 8;
     }
-    let few = row.len() - from;
-    pair_block(count, from, few, row, own);
+    let width = row.len();
+    pairs_on(&mut row[from..width], count, from, width, own);
 }
 
 // The totals with this row.
@@ -149,23 +151,23 @@ fn rings_on(
     }
 }
 
-// A block of columns, at most eight.
+// A block of eight columns.
 fn ring_block(
     count: usize,
     from: usize,
-    few: usize,
     befores: &[usize; 3],
     oldests: &[usize; 3],
     row: &mut [u64],
     own: &mut [u64],
 )
-    requires { ⌜ (count ≤ 3) × (few ≤ 8) × (from + few ≤ length (now row))
+    requires { ⌜ (count ≤ 3) × (from + 8 ≤ length (now row))
         × ((s : ℕ) → s < count → Apart (getD (now befores) s 0) (getD (now oldests) s 0) (length (now row)) (length (now own))) ⌝ }
     ensures { λ r. let old = now (row .entry) in
-        let made = ringsFrom from (now (befores .entry)) (now (oldests .entry)) count (take few (drop from old)) (now (own .entry)) in
-        ⌜ (now (row .exit) ≡ take from old ++ (made .row ++ drop (from + few) old)) × (now (own .exit) ≡ made .cells) ⌝ }
+        let made = ringsFrom from (now (befores .entry)) (now (oldests .entry)) count (take 8 (drop from old)) (now (own .entry)) in
+        ⌜ (now (row .exit) ≡ take from old ++ (made .row ++ drop (from + 8) old)) × (now (own .exit) ≡ made .cells) ⌝ }
 {
     let z: usize = 0;
+    let few: usize = 8;
     let to = from + few;
     let mut x = [0u64; 8];
     copy_values(&row[from..to], &mut x[z..few]);
@@ -181,11 +183,11 @@ fn rings(count: usize, befores: &[usize; 3], oldests: &[usize; 3], row: &mut [u6
 {
     let mut from: usize = 0;
     while 8 <= row.len() - from {
-        ring_block(count, from, 8, befores, oldests, row, own);
+        ring_block(count, from, befores, oldests, row, own);
         from += 8;
     }
-    let few = row.len() - from;
-    ring_block(count, from, few, befores, oldests, row, own);
+    let width = row.len();
+    rings_on(&mut row[from..width], count, from, befores, oldests, own);
 }
 
 // Three wider stages in turn, written out: a loop over them takes a third more time.
@@ -240,8 +242,8 @@ fn three_rings(befores: &[usize; 3], oldests: &[usize; 3], row: &mut [u64], own:
         three_block(from, befores, oldests, row, own);
         from += 8;
     }
-    let few = row.len() - from;
-    ring_block(3, from, few, befores, oldests, row, own);
+    let width = row.len();
+    rings_on(&mut row[from..width], 3, from, befores, oldests, own);
 }
 
 // A group of wider ones.
@@ -278,7 +280,8 @@ fn alike(list: Cascade, from: usize, least: u8, most: u8, longest: usize) -> usi
     k
 }
 
-// How many stages from one on are worked together.
+// How many stages from one on are worked together: a width below 2 alone, at most eight of width 2, or at
+// most three wider ones.
 fn run(list: Cascade, from: usize) -> usize
     requires { ⌜ (from < list .count) × (list .count ≤ 48) ⌝ }
     ensures { λ r. ⌜ Run (drop from (widths list)) r ⌝ }

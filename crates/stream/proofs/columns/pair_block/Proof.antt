@@ -53,26 +53,26 @@ part-x-start-2 c = search needs
 
 -- the array with the values
 abbrev filled : (c : tie.After-copy-values) → List ℕ
-filled c = c .copy-values .last .1 .0 ++ drop (c .before .before .before .before .before .before .args .few - 0) (replicate 8 0)
+filled c = c .copy-values .last .1 .0 ++ drop (8 - 0) (replicate 8 0)
 
 filled-long : (c : tie.After-copy-values) → length (filled c) ≡ 8
 filled-long c =
     let start = c .before .before .before .before .before .before in
     let a = start .args in
-    length-array (a .few) (c .copy-values .last .1 .0) (replicate 8 0)
-    (block-long (pairsFrom (a .from) (length (a .row .now)) (a .count)) (a .from) (a .few) (a .row .now) (a .own .now) (drop (a .few - 0) (replicate 8 0)) (start .pre .3) _ (c .copy-values .ensures))
-    (start .pre .2)
+    length-array 8 (c .copy-values .last .1 .0) (replicate 8 0)
+    (block-long (pairsFrom (a .from) (length (a .row .now)) (a .count)) (a .from) (8) (a .row .now) (a .own .now) (drop (8 - 0) (replicate 8 0)) (start .pre .2) _ (c .copy-values .ensures))
+    (omega arith)
 
-few-long : (c : tie.After-copy-values) → length (take (c .before .before .before .before .before .before .args .few - 0) (filled c)) ≡ c .before .before .before .before .before .before .args .few
+few-long : (c : tie.After-copy-values) → length (take (8 - 0) (filled c)) ≡ 8
 few-long c =
     let start = c .before .before .before .before .before .before in
-    let n : start .args .few - 0 ≡ start .args .few = omega arith in
-    length-take-le (start .args .few - 0) (filled c) (omega (arith, filled-long c, start .pre .2)) ∙ n
+    let n : 8 - 0 ≡ 8 = omega arith in
+    length-take-le (8 - 0) (filled c) (omega (arith, filled-long c)) ∙ n
 
 part-x-end-2 : tie.Need-part-x-end-2
 part-x-end-2 c =
     let start = c .before .before .before .before .before .before .before in
-    omega (arith, filled-long (c .before), start .pre .2)
+    omega (arith, filled-long (c .before))
 
 pairs-on-requires : tie.Need-pairs-on-requires
 pairs-on-requires c κs = search needs
@@ -88,22 +88,22 @@ part-copy-values-start-2 c = search needs
 
 -- the array with what is made of them
 abbrev made : (c : tie.After-pairs-on) → List ℕ
-made c = c .pairs-on .last .0 ++ drop (c .before .before .before .before .before .before .before .before .before .before .args .few - 0) (filled (c .before .before .before .before))
+made c = c .pairs-on .last .0 ++ drop (8 - 0) (filled (c .before .before .before .before))
 
-made-few : (c : tie.After-pairs-on) → length (c .pairs-on .last .0) ≡ c .before .before .before .before .before .before .before .before .before .before .args .few
+made-few : (c : tie.After-pairs-on) → length (c .pairs-on .last .0) ≡ 8
 made-few c = c .pairs-on .kept .0 ∙ few-long (c .before .before .before .before)
 
 made-long : (c : tie.After-pairs-on) → length (made c) ≡ 8
 made-long c =
     let start = c .before .before .before .before .before .before .before .before .before .before in
     let before = c .before .before .before .before in
-    length-array (start .args .few) (c .pairs-on .last .0) (filled before) (made-few c) (omega (arith, filled-long before, start .pre .2))
+    length-array 8 (c .pairs-on .last .0) (filled before) (made-few c) (omega (arith, filled-long before))
     ∙ filled-long before
 
 part-copy-values-end-2 : tie.Need-part-copy-values-end-2
 part-copy-values-end-2 c =
     let start = c .before .before .before .before .before .before .before .before .before .before .before .before .before .before in
-    omega (arith, made-long (c .before .before .before .before), start .pre .2)
+    omega (arith, made-long (c .before .before .before .before))
 
 mul-copy-values-3 : tie.Need-mul-copy-values-3
 mul-copy-values-3 c = search needs
@@ -131,8 +131,8 @@ returns c =
     let start = c .before .before .before .before .before .before .before .before .before .before .before .before .before .before .before .before .before .before .before in
     let a = start .args in
     let m = c .before .before .before .before .before .before .before .before .before .pairs-on in
-    block-out (pairsFrom (a .from) (length (a .row .now)) (a .count)) (a .from) (a .few) (a .row .now) (a .own .now) (drop (a .few - 0) (replicate 8 0)) (start .pre .3) _ (c .before .before .before .before .before .before .before .before .before .before .before .before .before .copy-values .ensures)
-    (m .last .0) (m .last .1 .1 .1 .1 .0) (drop (a .few - 0) (filled (c .before .before .before .before .before .before .before .before .before .before .before .before .before))) _ (made-few (c .before .before .before .before .before .before .before .before .before)) (m .ensures .0) (m .ensures .1) (c .before .before .copy-values2 .ensures)
+    block-out (pairsFrom (a .from) (length (a .row .now)) (a .count)) (a .from) (8) (a .row .now) (a .own .now) (drop (8 - 0) (replicate 8 0)) (start .pre .2) _ (c .before .before .before .before .before .before .before .before .before .before .before .before .before .copy-values .ensures)
+    (m .last .0) (m .last .1 .1 .1 .1 .0) (drop (8 - 0) (filled (c .before .before .before .before .before .before .before .before .before .before .before .before .before))) _ (made-few (c .before .before .before .before .before .before .before .before .before)) (m .ensures .0) (m .ensures .1) (c .before .before .copy-values2 .ensures)
 
 pub pair-block-spec : {M : Type 1} → statement M
 pair-block-spec =

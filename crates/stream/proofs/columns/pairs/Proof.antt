@@ -3,12 +3,13 @@
 use Rattle.stream.specs.Stages.{Worked}
 use Rattle.stream.specs.Private.{pairsFrom}
 use Rattle.stream.proofs.Sweeps.{Swept, swept-none, swept-length, swept-more, swept-all, pairs-sweep}
-use mathlib.Core.Path.{_≡_, refl, sym, ap, _∙_}
-use mathlib.Core.List.{_++_}
-use Prim.Native.Nat.{_+_, _-_, _*_, _≤_}
+use lib.Seq.{length-take-le, drop-drop}
+use mathlib.Core.Path.{_≡_, refl, sym, ap, ap₂, _∙_}
+use mathlib.Core.List.{List, _++_}
+use Prim.Native.Nat.{ℕ, _+_, _-_, _*_, _≤_}
 use native.Mathlib.Omega.{arith}
 use borrow.Author.Needs.{needs}
-use lib.ListN.{length, take, drop}
+use lib.ListN.{length, take, drop, length-drop}
 use Rattle.stream.proofs.columns.pairs.Statement.{statement}
 use Rattle.stream.proofs.columns.pairs.Tie as tie
 
@@ -33,7 +34,7 @@ pair-block-requires c κs =
     let turn = c .before .before .before .loop in
     let start = c .before .before .before .before .before .before in
     let a = start .args in
-    (start .pre .0, omega (arith, start .pre .1), omega arith, omega (arith, turn .inv .0, turn .inv .1), turn .inv .2 ∙ start .pre .2 ∙ ap (λ n. a .count * n) (sym (turn .inv .1)))
+    (start .pre .0, omega (arith, start .pre .1), omega (arith, turn .inv .0, turn .inv .1), turn .inv .2 ∙ start .pre .2 ∙ ap (λ n. a .count * n) (sym (turn .inv .1)))
 
 add-from : tie.Need-add-from Inv-loop μ-loop
 add-from c = search needs
@@ -54,15 +55,29 @@ loop-again c =
     let n = swept-length (length (a .row .now)) (a .count * length (a .row .now)) (λ i. pairsFrom i (length (a .row .now)) (a .count)) (pairs-sweep (length (a .row .now)) (a .count)) (a .row .now) (a .own .now) refl (start .pre .2) (turn .from + 8) _ _ (omega (arith, turn .inv .0, turn .inv .1)) swept in
     (omega (arith, turn .inv .0, turn .inv .1), n .0, n .1, swept)
 
-sub-few : tie.Need-sub-few Inv-loop μ-loop
-sub-few c = search needs
+mul-pairs-on : tie.Need-mul-pairs-on Inv-loop μ-loop
+mul-pairs-on c = search needs
 
-pair-block-requires-2 : tie.Need-pair-block-requires-2 Inv-loop μ-loop
-pair-block-requires-2 c κs =
+sub-pairs-on : tie.Need-sub-pairs-on Inv-loop μ-loop
+sub-pairs-on c = search needs
+
+part-pairs-on-start : tie.Need-part-pairs-on-start Inv-loop μ-loop
+part-pairs-on-start c = search needs
+
+part-pairs-on-end : tie.Need-part-pairs-on-end Inv-loop μ-loop
+part-pairs-on-end c = search needs
+
+-- the columns that are left
+rest-long : (row : List ℕ) (from : ℕ) → length (take (length row - from) (drop from row)) ≡ length row - from
+rest-long row from = length-take-le (length row - from) (drop from row) (omega (arith, length-drop from row))
+
+pairs-on-requires : tie.Need-pairs-on-requires Inv-loop μ-loop
+pairs-on-requires c κs =
     let turn = c .before .before .before .loop in
     let start = c .before .before .before .before .before .before in
     let a = start .args in
-    (start .pre .0, omega (arith, start .pre .1), omega arith, omega (arith, turn .inv .0, turn .inv .1), turn .inv .2 ∙ start .pre .2 ∙ ap (λ n. a .count * n) (sym (turn .inv .1)))
+    let n = rest-long (turn .row) (turn .from) in
+    (start .pre .0, omega (arith, start .pre .1, turn .inv .1), omega (arith, turn .inv .0, turn .inv .1), turn .inv .2 ∙ start .pre .2 ∙ ap (λ n. a .count * n) (sym (turn .inv .1)))
 
 same-length : tie.Need-same-length Inv-loop μ-loop
 same-length c = search needs
@@ -75,10 +90,10 @@ returns c =
     let turn = c .before .before .before .before .before .before .before .before .loop in
     let start = c .before .before .before .before .before .before .before .before .before .before .before in
     let a = start .args in
-    let done = c .before .before .before .before .pair-block2 in
+    let done = c .before .before .before .before .pairs-on in
     let made : pairsFrom (turn .from) (length (turn .row)) (a .count) (take (length (turn .row) - turn .from) (drop (turn .from) (turn .row))) (turn .own) ≡ pairsFrom (turn .from) (length (a .row .now)) (a .count) (take (length (turn .row) - turn .from) (drop (turn .from) (turn .row))) (turn .own) = ap (λ n. pairsFrom (turn .from) n (a .count) (take (length (turn .row) - turn .from) (drop (turn .from) (turn .row))) (turn .own)) (turn .inv .1) in
     let swept = swept-more (length (a .row .now)) (a .count * length (a .row .now)) (λ i. pairsFrom i (length (a .row .now)) (a .count)) (pairs-sweep (length (a .row .now)) (a .count)) (a .row .now) (a .own .now) refl (start .pre .2) (turn .from) ((length (turn .row) - turn .from)) (turn .row) (turn .own) _ _ (omega (arith, turn .inv .0, turn .inv .1)) (turn .inv .3)
-    (done .ensures .0 ∙ ap (λ (w : Worked). take (turn .from) (turn .row) ++ (w .row ++ drop (turn .from + (length (turn .row) - turn .from)) (turn .row))) made)
+    (ap₂ (λ u v. take (turn .from) (turn .row) ++ (u ++ v)) (done .ensures .0 ∙ ap (λ (w : Worked). w .row) made) (drop-drop (length (turn .row) - turn .from) (turn .from) (turn .row)))
     (done .ensures .1 ∙ ap (λ (w : Worked). w .cells) made) in
     swept-all (length (a .row .now)) (a .count * length (a .row .now)) (λ i. pairsFrom i (length (a .row .now)) (a .count)) (pairs-sweep (length (a .row .now)) (a .count)) (a .row .now) (a .own .now) refl (start .pre .2) (turn .from + (length (turn .row) - turn .from)) _ _ (omega (arith, turn .inv .0, turn .inv .1)) swept
 
@@ -94,8 +109,11 @@ pairs-spec =
     add-from
     loop-less
     loop-again
-    sub-few
-    pair-block-requires-2
+    mul-pairs-on
+    sub-pairs-on
+    part-pairs-on-start
+    part-pairs-on-end
+    pairs-on-requires
     same-length
     same-length-2
     returns)

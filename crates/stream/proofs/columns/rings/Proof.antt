@@ -3,12 +3,14 @@
 use Rattle.stream.specs.Stages.{Worked}
 use Rattle.stream.specs.Private.{Apart, ringsFrom}
 use Rattle.stream.proofs.Sweeps.{Swept, swept-none, swept-length, swept-more, swept-all, rings-sweep, slots-inside}
-use mathlib.Core.Path.{_≡_, refl, sym, ap, subst, _∙_}
-use mathlib.Core.List.{_++_}
-use Prim.Native.Nat.{_+_, _-_, _≤_}
+use lib.Seq.{length-take-le, drop-drop}
+use mathlib.Core.Path.{_≡_, refl, sym, ap, ap₂, subst, _∙_}
+use mathlib.Core.List.{List, _++_}
+use mathlib.Core.Logic.{inl, inr, ⊎-elim}
+use Prim.Native.Nat.{ℕ, _+_, _-_, _≤_}
 use native.Mathlib.Omega.{arith}
 use borrow.Author.Needs.{needs}
-use lib.ListN.{length, getD, take, drop}
+use lib.ListN.{length, getD, take, drop, length-drop}
 use Rattle.stream.proofs.columns.rings.Statement.{statement}
 use Rattle.stream.proofs.columns.rings.Tie as tie
 
@@ -33,7 +35,7 @@ ring-block-requires c κs =
     let turn = c .before .before .before .loop in
     let start = c .before .before .before .before .before .before in
     let a = start .args in
-    (start .pre .0, omega arith, omega (arith, turn .inv .0, turn .inv .1), λ s h. subst (λ n. Apart (getD (a .befores .now) s 0) (getD (a .oldests .now) s 0) n (length (turn .own))) (sym (turn .inv .1)) (subst (λ n. Apart (getD (a .befores .now) s 0) (getD (a .oldests .now) s 0) (length (a .row .now)) n) (sym (turn .inv .2)) (slots-inside (length (a .row .now)) (a .count) (length (a .own .now)) (a .befores .now) (a .oldests .now) (start .pre .1) s h)))
+    (start .pre .0, omega (arith, turn .inv .0, turn .inv .1), λ s h. subst (λ n. Apart (getD (a .befores .now) s 0) (getD (a .oldests .now) s 0) n (length (turn .own))) (sym (turn .inv .1)) (subst (λ n. Apart (getD (a .befores .now) s 0) (getD (a .oldests .now) s 0) (length (a .row .now)) n) (sym (turn .inv .2)) (slots-inside (length (a .row .now)) (a .count) (length (a .own .now)) (a .befores .now) (a .oldests .now) (start .pre .1) s h)))
 
 add-from : tie.Need-add-from Inv-loop μ-loop
 add-from c = search needs
@@ -54,15 +56,38 @@ loop-again c =
     let n = swept-length (length (a .row .now)) (length (a .own .now)) (λ i. ringsFrom i (a .befores .now) (a .oldests .now) (a .count)) (rings-sweep (length (a .row .now)) (a .count) (length (a .own .now)) (a .befores .now) (a .oldests .now) (start .pre .1)) (a .row .now) (a .own .now) refl refl (turn .from + 8) _ _ (omega (arith, turn .inv .0, turn .inv .1)) swept in
     (omega (arith, turn .inv .0, turn .inv .1), n .0, n .1, swept)
 
-sub-few : tie.Need-sub-few Inv-loop μ-loop
-sub-few c = search needs
+mul-rings-on : tie.Need-mul-rings-on Inv-loop μ-loop
+mul-rings-on c = search needs
 
-ring-block-requires-2 : tie.Need-ring-block-requires-2 Inv-loop μ-loop
-ring-block-requires-2 c κs =
+sub-rings-on : tie.Need-sub-rings-on Inv-loop μ-loop
+sub-rings-on c = search needs
+
+part-rings-on-start : tie.Need-part-rings-on-start Inv-loop μ-loop
+part-rings-on-start c = search needs
+
+part-rings-on-end : tie.Need-part-rings-on-end Inv-loop μ-loop
+part-rings-on-end c = search needs
+
+-- fewer than eight columns are left
+rest-long : (row : List ℕ) (from : ℕ) → length (take (length row - from) (drop from row)) ≡ length row - from
+rest-long row from = length-take-le (length row - from) (drop from row) (omega (arith, length-drop from row))
+
+rings-on-requires : tie.Need-rings-on-requires Inv-loop μ-loop
+rings-on-requires c κs =
     let turn = c .before .before .before .loop in
     let start = c .before .before .before .before .before .before in
     let a = start .args in
-    (start .pre .0, omega arith, omega (arith, turn .inv .0, turn .inv .1), λ s h. subst (λ n. Apart (getD (a .befores .now) s 0) (getD (a .oldests .now) s 0) n (length (turn .own))) (sym (turn .inv .1)) (subst (λ n. Apart (getD (a .befores .now) s 0) (getD (a .oldests .now) s 0) (length (a .row .now)) n) (sym (turn .inv .2)) (slots-inside (length (a .row .now)) (a .count) (length (a .own .now)) (a .befores .now) (a .oldests .now) (start .pre .1) s h)))
+    let n = rest-long (turn .row) (turn .from) in (
+      start .pre .0,
+      omega arith,
+      λ s h.
+          let k = slots-inside (length (a .row .now)) (a .count) (length (a .own .now)) (a .befores .now) (a .oldests .now) (start .pre .1) s h in
+          record {
+            beforeInside = omega (arith, turn .inv .0, turn .inv .1, turn .inv .2, k .beforeInside);
+            oldestInside = omega (arith, turn .inv .0, turn .inv .1, turn .inv .2, k .oldestInside);
+            apart = ⊎-elim (λ u. inl (omega (arith, turn .inv .0, turn .inv .1))) (λ u. inr (omega (arith, turn .inv .0, turn .inv .1))) (k .apart);
+          },
+    )
 
 same-length : tie.Need-same-length Inv-loop μ-loop
 same-length c = search needs
@@ -75,10 +100,10 @@ returns c =
     let turn = c .before .before .before .before .before .before .before .before .loop in
     let start = c .before .before .before .before .before .before .before .before .before .before .before in
     let a = start .args in
-    let done = c .before .before .before .before .ring-block2 in
+    let done = c .before .before .before .before .rings-on in
     let made : ringsFrom (turn .from) (a .befores .now) (a .oldests .now) (a .count) (take (length (turn .row) - turn .from) (drop (turn .from) (turn .row))) (turn .own) ≡ ringsFrom (turn .from) (a .befores .now) (a .oldests .now) (a .count) (take (length (turn .row) - turn .from) (drop (turn .from) (turn .row))) (turn .own) = refl in
     let swept = swept-more (length (a .row .now)) (length (a .own .now)) (λ i. ringsFrom i (a .befores .now) (a .oldests .now) (a .count)) (rings-sweep (length (a .row .now)) (a .count) (length (a .own .now)) (a .befores .now) (a .oldests .now) (start .pre .1)) (a .row .now) (a .own .now) refl refl (turn .from) ((length (turn .row) - turn .from)) (turn .row) (turn .own) _ _ (omega (arith, turn .inv .0, turn .inv .1)) (turn .inv .3)
-    (done .ensures .0 ∙ ap (λ (w : Worked). take (turn .from) (turn .row) ++ (w .row ++ drop (turn .from + (length (turn .row) - turn .from)) (turn .row))) made)
+    (ap₂ (λ u v. take (turn .from) (turn .row) ++ (u ++ v)) (done .ensures .0 ∙ ap (λ (w : Worked). w .row) made) (drop-drop (length (turn .row) - turn .from) (turn .from) (turn .row)))
     (done .ensures .1 ∙ ap (λ (w : Worked). w .cells) made) in
     swept-all (length (a .row .now)) (length (a .own .now)) (λ i. ringsFrom i (a .befores .now) (a .oldests .now) (a .count)) (rings-sweep (length (a .row .now)) (a .count) (length (a .own .now)) (a .befores .now) (a .oldests .now) (start .pre .1)) (a .row .now) (a .own .now) refl refl (turn .from + (length (turn .row) - turn .from)) _ _ (omega (arith, turn .inv .0, turn .inv .1)) swept
 
@@ -94,8 +119,11 @@ rings-spec =
     add-from
     loop-less
     loop-again
-    sub-few
-    ring-block-requires-2
+    mul-rings-on
+    sub-rings-on
+    part-rings-on-start
+    part-rings-on-end
+    rings-on-requires
     same-length
     same-length-2
     returns)

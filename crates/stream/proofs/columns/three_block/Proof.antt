@@ -60,7 +60,7 @@ filled-long : (c : tie.After-copy-values) → length (filled c) ≡ 8
 filled-long c =
     let start = c .before .before .before .before .before .before in
     let a = start .args in
-    length-array (8) (c .copy-values .last .1 .0) (replicate 8 0)
+    length-array 8 (c .copy-values .last .1 .0) (replicate 8 0)
     (block-long (ringsFrom (a .from) (a .befores .now) (a .oldests .now) 3) (a .from) (8) (a .row .now) (a .own .now) (drop (8 - 0) (replicate 8 0)) (start .pre .0) _ (c .copy-values .ensures))
     (omega arith)
 
@@ -109,7 +109,7 @@ made-long : (c : tie.After-three-on) → length (made c) ≡ 8
 made-long c =
     let start = c .before .before .before .before .before .before .before .before .before .before in
     let before = c .before .before .before .before in
-    length-array (8) (c .three-on .last .0) (filled before) (made-few c) (omega (arith, filled-long before))
+    length-array 8 (c .three-on .last .0) (filled before) (made-few c) (omega (arith, filled-long before))
     ∙ filled-long before
 
 part-copy-values-end-2 : tie.Need-part-copy-values-end-2
