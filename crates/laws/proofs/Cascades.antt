@@ -8,8 +8,8 @@ use native.Mathlib.Nat.{le-refl, le-trans, mul-zero, zero-mul, one-mul, mul-one,
 use native.Mathlib.Decide.{decLe}
 use native.Mathlib.Omega.{arith}
 use lib.ListN.{List·getD-eq-default}
-use Rattle.spec.specs.Words.{sum, total}
-use Rattle.spec.specs.Recipe.{kernel, boxOrder, order, weight}
+use Rattle.spec.specs.Words.{sum}
+use Rattle.spec.specs.Recipe.{kernel, order, weight}
 use Rattle.laws.proofs.Sums.{sum-agree, sum-zero, sum-first, sum-front, sum-swap}
 use Rattle.laws.proofs.Lists.{first-pos, rest-pos}
 use Rattle.laws.proofs.Sequences.{behind, boxed, behind-zero, behind-within, behind-before, behind-agree}

@@ -27,33 +27,6 @@ use Rattle.stream.proofs.Following.{Follows, widths-are}
 
 -- ---- down the columns: f j i is the value of row j in column i
 
--- the lengths that a stage keeps
-pub column-keeps : (w e n : ℕ) (row own : List ℕ) → length row ≡ w → length own ≡ w * boxCells n
-    → (length (columnStage e n row own .row) ≡ w) × (length (columnStage e n row own .cells) ≡ w * boxCells n)
-unfolding columnPair columnSlot
-column-keeps w e n row own l s = go (widths-are n)
-  where
-    go : (n < 2) ⊎ ((n ≡ 2) ⊎ (2 < n))
-        → (length (columnStage e n row own .row) ≡ w) × (length (columnStage e n row own .cells) ≡ w * boxCells n)
-    go (inl h) =
-        let d = column-one n row own e h in
-        (ap (λ (x : Worked). length (x .row)) d ∙ l, ap (λ (x : Worked). length (x .cells)) d ∙ s)
-    go (inr (inl u)) =
-        let d = column-two n row own e u in (
-          ap (λ (x : Worked). length (x .row)) d ∙ length-tab (length row) (λ i. plus (getD row i 0) (getD own i 0)) ∙ l,
-          ap (λ (x : Worked). length (x .cells)) d ∙ l ∙ sym (ap (λ x. w * x) (cells-two n u) ∙ mul-one w),
-        )
-    go (inr (inr h)) =
-        let d = column-wide n row own e h in
-        let a = slotBefore n e * length row in
-        let b = e % n * length row in
-        let whole : length own ≡ n * length row =
-        s ∙ ap (λ x. w * x) (cells-wide n h) ∙ mul-comm w n ∙ ap (λ x. n * x) (sym l) in
-        let fits : b + length row ≤ length own = omega (arith, slot-inside n e (length row) (omega arith)) in (
-          ap (λ (x : Worked). length (x .row)) d ∙ length-tab (length row) (λ i. minus (slotTotal a row own i) (getD own (b + i) 0)) ∙ l,
-          ap (λ (x : Worked). length (x .cells)) d ∙ ap length (new-is a b row own fits) ∙ size a b row own fits ∙ s,
-        )
-
 -- the cells of one stage after e rows
 pub record Kept (w n : ℕ) (f : ℕ → ℕ → ℕ) (e : ℕ) (own : List ℕ) : Type 0 where
   pub pair : n ≡ 2 → (i : ℕ) → i < w → at own i ≡ behind (λ j. f j i) 1 e % 2 ^ 64

@@ -1,7 +1,7 @@
 -- One row through all stages, from honest cells: the grown row of exact sums.
 -- Assumes nothing.
-use mathlib.Core.Path.{_≡_, refl, sym, ap, subst, _∙_}
-use mathlib.Core.List.{List, [], _∷_, _++_}
+use mathlib.Core.Path.{_≡_, sym, ap, subst, _∙_}
+use mathlib.Core.List.{List, [], _++_}
 use Prim.Native.Nat.{ℕ, _+_, _*_, _%_, _^_, _≤_, _<_}
 use native.Mathlib.Nat.{le-trans, le-of-eq, mul-le-mul}
 use native.Mathlib.Decide.{decLt}
@@ -19,24 +19,9 @@ use Rattle.laws.proofs.Exact.{pixel-right, pixel-below, pixel-inside, line, exa
 use Rattle.stream.specs.Stages.{Worked, rowStage, columnStage, stages, along, down, worked, entering}
 use Rattle.rows.specs.Runs.{pictureRow}
 use Rattle.stream.proofs.Following.{Follows, row-keeps, rows-follow}
-use Rattle.rows.proofs.Honest.{KeptAll, column-keeps, columns-follow, zeros-kept}
-
--- Stages keep the lengths of the row and of their cells.
-module _ (w : ℕ) (size : ℕ → ℕ) (stage : ℕ → List ℕ → List ℕ → Worked)
-    (keeps : (n : ℕ) (row own : List ℕ) → length row ≡ w → length own ≡ size n
-    → (length (stage n row own .row) ≡ w) × (length (stage n row own .cells) ≡ size n)) where
-  pub stages-keep : (ns row cells : List ℕ) → length row ≡ w → total size ns ≤ length cells
-      → (length (stages size stage ns row cells .row) ≡ w) × (length (stages size stage ns row cells .cells) ≡ length cells)
-  unfolding stages total
-  stages-keep [] row cells e h = (e, refl)
-  stages-keep (n ∷ ns) row cells e h =
-      let own = take (size n) cells in
-      let one = keeps n row own e (length-take-le (size n) cells (omega arith)) in
-      let first = stage n row own in
-      let rest = stages-keep ns (first .row) (drop (size n) cells) (one .0) (omega (arith, length-drop (size n) cells)) in (
-        rest .0,
-        omega (arith, length-append (first .cells) (stages size stage ns (first .row) (drop (size n) cells) .cells), one .1, rest .1, length-drop (size n) cells),
-      )
+use Rattle.stream.proofs.Groups.{stages-keep}
+use Rattle.stream.proofs.Sweeps.{columns-keep}
+use Rattle.rows.proofs.Honest.{KeptAll, columns-follow, zeros-kept}
 
 module _ (r : Recipe) (p : Picture) where
   -- the grown width
@@ -68,14 +53,14 @@ module _ (r : Recipe) (p : Picture) where
       let rc = total boxCells (r .rows) in
       let room = needed cells h in
       let size : length (take rc cells) ≡ rc = length-take-le rc cells (room .0) in
-      let one = stages-keep W boxCells rowStage (row-keeps W) (r .rows) row (take rc cells) l (le-of-eq (sym size)) in
+      let one = stages-keep boxCells rowStage W (λ n row own a b. let k = row-keeps W n row own a b in record { row = k .0; cells = k .1 }) (r .rows) row (take rc cells) l (le-of-eq (sym size)) in
       let first = stages boxCells rowStage (r .rows) row (take rc cells) in
       let second = stages (λ n. length (first .row) * boxCells n) (columnStage e) (r .columns) (first .row) (drop rc cells) in
       let same : stages (λ n. W * boxCells n) (columnStage e) (r .columns) (first .row) (drop rc cells) ≡ second =
-      ap (λ w. stages (λ n. w * boxCells n) (columnStage e) (r .columns) (first .row) (drop rc cells)) (sym (one .0)) in
-      let two = stages-keep W (λ n. W * boxCells n) (columnStage e) (column-keeps W e) (r .columns) (first .row) (drop rc cells) (one .0) (room .1) in
-      let long : length (second .cells) ≡ length (drop rc cells) = ap (λ (x : Worked). length (x .cells)) (sym same) ∙ two .1 in
-      omega (arith, length-append (first .cells) (second .cells), one .1, size, long, length-drop rc cells, room .0)
+      ap (λ w. stages (λ n. w * boxCells n) (columnStage e) (r .columns) (first .row) (drop rc cells)) (sym (one .row)) in
+      let two = stages-keep (λ n. W * boxCells n) (columnStage e) W (columns-keep e W) (r .columns) (first .row) (drop rc cells) (one .row) (room .1) in
+      let long : length (second .cells) ≡ length (drop rc cells) = ap (λ (x : Worked). length (x .cells)) (sym same) ∙ two .cells in
+      omega (arith, length-append (first .cells) (second .cells), one .cells, size, long, length-drop rc cells, room .0)
 
   module _ (pos : 0 < gain r) (light : gain r ≤ 2 ^ 44) (most : ℕ) (few : most ≤ 65535) (small : Within most p) where
     exact-fits : (i j : ℕ) → exact r p i j % 2 ^ 64 ≡ exact r p i j

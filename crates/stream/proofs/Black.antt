@@ -4,16 +4,15 @@ use mathlib.Core.Path.{_≡_, refl, sym, ap, ap₂, _∙_}
 use mathlib.Core.List.{List, [], _∷_, _++_}
 use mathlib.Core.Logic.{_⊎_, inl, inr, ⊎-elim}
 use Prim.Native.Nat.{ℕ, suc, _+_, _-_, _*_, _%_, _^_, _≤_, _<_}
-use native.Mathlib.Nat.{mul-zero}
 use native.Mathlib.Decide.{decLt}
 use native.Mathlib.Omega.{arith}
-use lib.ListN.{length, getD, take, drop, replicate, length-append, length-drop, length-replicate, replicate-append-replicate, List·getD-eq-default}
+use lib.ListN.{length, getD, take, drop, replicate, length-drop, List·getD-eq-default}
 use lib.Seq.{length-take-le}
 use borrow.Author.Tests.{lt-ltb, le-ltb, ne-eqb}
 use Rattle.spec.specs.Words.{sum, tab, total}
 use Rattle.spec.specs.Recipe.{boxOrder, order, weight}
 use Rattle.spec.specs.Stream.{boxCells, cascadeCells}
-use Rattle.laws.proofs.Sums.{sum-agree, sum-zero, sum-front}
+use Rattle.laws.proofs.Sums.{sum-agree, sum-front}
 use Rattle.laws.proofs.Lists.{length-tab, getD-tab, tab-agree, tab-replicate, first-pos, rest-pos}
 use Rattle.laws.proofs.Sequences.{boxed, boxed-whole}
 use Rattle.laws.proofs.Kernels.{at, holds-tab}

@@ -1,27 +1,22 @@
 -- The stages of specs/Stages.antt as box filters on sequences.
 -- Assumes nothing.
-use mathlib.Core.Path.{_≡_, refl, sym, ap, ap₂, _∙_}
-use mathlib.Core.Bool.{cond}
+use mathlib.Core.Path.{_≡_, refl, ap}
 use mathlib.Core.List.{List, [], _∷_}
 use Prim.Native.Nat.{ℕ, suc, _+_, _-_, _*_, _%_, _^_, _≤_, _<_}
-use native.Mathlib.Nat.{le-refl, mul-le-mul}
+use native.Mathlib.Nat.{mul-le-mul}
 use native.Mathlib.Decide.{decLe, decLt}
 use native.Mathlib.Omega.{arith}
-use lib.Dec.{ltb}
-use lib.ListN.{length, getD, set, replicate}
+use lib.ListN.{length, getD}
 use borrow.Author.Tests.{lt-ltb, le-ltb, ne-eqb}
 use Rattle.spec.specs.Words.{sum, tab, total}
 use Rattle.spec.specs.Recipe.{widths}
 use Rattle.spec.specs.declared.Cascade.{Cascade}
-use Rattle.laws.proofs.Sums.{sum-agree, sum-split}
-use Rattle.laws.proofs.Lists.{length-tab, getD-tab, tab-agree, tab-replicate, total-most}
+use Rattle.laws.proofs.Lists.{total-most}
 use Rattle.filter.proofs.Widths.{length-widths}
 use Rattle.laws.proofs.Sequences.{behind, boxed, running, behind-zero, behind-within, behind-before, boxed-running}
 use Rattle.laws.proofs.Kernels.{at}
 use Rattle.spec.specs.Stream.{boxCells, boxCost}
-use Rattle.stream.specs.Stages.{minus, covered, rowBoxed, rowKept, rowStage, slotBefore, columnPair, columnSlot, columnStage}
-use Rattle.stream.proofs.Wrapping.{minus-exact}
-use Rattle.stream.proofs.Rings.{covered-none, covered-whole, lap-early, lap-late}
+use Rattle.stream.specs.Stages.{covered, rowBoxed, rowKept, rowStage, slotBefore, columnPair, columnSlot, columnStage}
 
 -- a stage along the row is the box filter modulo 2^64
 pub row-boxed : (n : ℕ) (row : List ℕ) → rowBoxed n row ≡ tab (length row) (λ k. boxed n (at row) k % 2 ^ 64)

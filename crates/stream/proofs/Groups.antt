@@ -12,7 +12,7 @@ use Rattle.spec.specs.Words.{total}
 use Rattle.laws.proofs.Lists.{total-append}
 use Rattle.stream.specs.Stages.{Worked, stages}
 use Rattle.stream.specs.Private.{inTurn}
-use Rattle.stream.proofs.Left.{stages-beyond}
+use Rattle.stream.proofs.Both.{stages-beyond}
 
 -- a stage that keeps the lengths, of rows of m values
 pub record Kept (m size : ℕ) (done : Worked) : Type 0 where

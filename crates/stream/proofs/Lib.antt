@@ -5,7 +5,7 @@ pub mod Slots
 pub mod Following
 pub mod Black
 pub mod RowList
-pub mod Left
+pub mod Both
 pub mod Kept
 pub mod Groups
 pub mod Runs

@@ -1,18 +1,11 @@
 -- The cells that a start clears.
 -- Assumes nothing.
-use mathlib.Core.Path.{_≡_, refl, sym, ap, ap₂, _∙_}
-use mathlib.Core.Bool.{cond}
-use mathlib.Core.List.{List, [], _++_}
-use Prim.Native.Nat.{ℕ, _+_, _-_, _≤_, _<_}
+use mathlib.Core.Path.{_≡_, ap, ap₂, _∙_}
+use mathlib.Core.List.{List, _++_}
+use Prim.Native.Nat.{ℕ, _+_, _-_, _≤_}
 use native.Mathlib.Nat.{sub-zero}
-use native.Mathlib.Omega.{arith}
-use lib.Dec.{ltb}
-use lib.ListN.{length, getD, take, drop, replicate, length-replicate, getD-replicate, length-drop, List·getD-eq-default}
+use lib.ListN.{length, take, drop, replicate}
 use lib.Seq.{length-take-le}
-use borrow.Author.Tests.{lt-ltb}
-use Rattle.spec.specs.Words.{tab}
-use Rattle.laws.proofs.Lists.{length-tab, getD-tab, tab-agree, tab-replicate}
-use Rattle.laws.proofs.Slices.{mixed-same, mixed-part, mixed-all}
 
 -- the first n cells cleared
 pub cleared : (n : ℕ) (cells ys : List ℕ) → n ≤ length cells → ys ≡ replicate (length (take (n - 0) (drop 0 cells))) 0

@@ -5,24 +5,22 @@ use mathlib.Core.Path.{_≡_, refl, sym, ap, _∙_}
 use mathlib.Core.Bool.{Bool, true, false, cond, not, _||_, true≢false}
 use mathlib.Core.List.{List, _++_}
 use Prim.Native.Nat.{ℕ, zero, suc, _+_, _*_, _%_, _^_, _≤_, _<_}
-use native.Mathlib.Nat.{mod-lt, mod-eq-of-lt, le-trans, le-of-eq, mul-le-mul, mul-one}
+use native.Mathlib.Nat.{le-trans, le-of-eq}
 use native.Mathlib.Omega.{arith}
-use native.Mathlib.Decide.{decLt}
-use lib.Dec.{ltb, eqb}
-use lib.ListN.{length, getD, take, drop, take-append-drop, List·getD-eq-default}
+use lib.Dec.{eqb}
+use lib.ListN.{length, getD, take, drop, take-append-drop}
 use lib.Seq.{length-take-le}
 use borrow.Author.Tests.{le-ltb, eqb-true}
 use Rattle.spec.specs.Words.{sum, tab, total, somewhere}
 use Rattle.spec.specs.Recipe.{order, weight}
 use Rattle.spec.specs.Stream.{boxCells, cascadeCells}
-use Rattle.laws.proofs.Sums.{sum-le, sum-scale}
 use Rattle.laws.proofs.Lists.{nowhere}
 use Rattle.laws.proofs.Kernels.{at}
 use Rattle.laws.proofs.Cascades.{cascaded}
 use Rattle.along.specs.Along.{wide, tooMuch, rowAfter, totalAfter}
-use Rattle.stream.specs.Stages.{Worked, rowStage, stages}
+use Rattle.stream.specs.Stages.{rowStage, stages}
 use Rattle.stream.specs.Private.{kept}
-use Rattle.stream.proofs.Left.{stages-beyond}
+use Rattle.stream.proofs.Both.{stages-beyond}
 use Rattle.stream.proofs.Black.{row-made, row-kept, kept-modulo, kept-narrow}
 
 -- a width that is not wide

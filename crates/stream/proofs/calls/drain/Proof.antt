@@ -2,16 +2,12 @@
 -- Assumes nothing.
 use Rattle.laws.proofs.Refusals.{lent-refused, lent-accepted}
 use Rattle.stream.specs.Private.{Ready}
-use Rattle.stream.specs.Stages.{entering}
-use Rattle.stream.specs.Calls.{stateOf, start, called, steps, answers, drain}
+use Rattle.stream.specs.Calls.{stateOf, start, called, answers, drain}
 use Rattle.stream.proofs.States.{drain-ready}
-use mathlib.Core.Path.{sym, ap, subst, _∙_}
-use Rattle.spec.specs.Words.{tab}
-use mathlib.Core.List.{[]}
-use Prim.Native.Nat.{ℕ}
+use mathlib.Core.Path.{sym, _∙_}
 use native.Mathlib.Omega.{arith}
 use borrow.Author.Needs.{needs}
-use lib.ListN.{length, getD}
+use lib.ListN.{length}
 use Rattle.stream.proofs.calls.drain.Statement.{statement}
 use Rattle.stream.proofs.calls.drain.Tie as tie
 

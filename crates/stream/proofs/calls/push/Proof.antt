@@ -1,16 +1,13 @@
 -- `stream::calls::push` meets its contract: the checks, the row with its black places, the stages.
 -- Assumes nothing.
-use Rattle.spec.specs.Picture.{fullWidth}
 use Rattle.laws.proofs.Refusals.{lent-refused, lent-accepted}
 use Rattle.stream.specs.Private.{Ready}
-use Rattle.stream.specs.Stages.{entering}
-use Rattle.stream.specs.Calls.{stateOf, start, called, steps, answers, push}
+use Rattle.stream.specs.Calls.{stateOf, start, called, answers, push}
 use Rattle.stream.proofs.States.{row-ready}
-use mathlib.Core.Path.{_≡_, sym, ap, subst, _∙_}
-use Rattle.spec.specs.Words.{tab}
+use mathlib.Core.Path.{_≡_, sym, _∙_}
 use native.Mathlib.Omega.{arith}
 use borrow.Author.Needs.{needs}
-use lib.ListN.{length, getD}
+use lib.ListN.{length}
 use Rattle.stream.proofs.calls.push.Statement.{statement}
 use Rattle.stream.proofs.calls.push.Tie as tie
 

@@ -6,13 +6,13 @@ use lib.Dec.{lit<}
 use lib.Seq.{length-take-le}
 use lib.ListN.{length-drop, length, getD, drop}
 use Rattle.spec.specs.Words.{tab}
-use Rattle.spec.specs.Recipe.{recipe, widths, weight}
+use Rattle.spec.specs.Recipe.{recipe, widths}
 use Rattle.spec.specs.Stream.{boxCells, cascadeCells, cascadeCost}
 use Rattle.filter.proofs.Widths.{length-widths}
 use Rattle.stream.specs.Private as Private
 use Rattle.stream.specs.Stages.{Worked, rowStage, stages}
 use Rattle.stream.proofs.Boxes.{cascade-small}
-use Rattle.stream.proofs.Left.{both-lists}
+use Rattle.stream.proofs.Both.{both-lists}
 use Rattle.stream.proofs.RowList.{row-after, total-small, total-kept, row-list}
 use mathlib.Core.Path.{_≡_, refl, sym, ap, _∙_}
 use mathlib.Core.List.{_++_}

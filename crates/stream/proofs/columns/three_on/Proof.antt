@@ -2,13 +2,13 @@
 -- Assumes nothing.
 use Rattle.stream.specs.Stages.{Worked, columnSlot}
 use Rattle.stream.specs.Private.{Apart, inTurn, ringsFrom}
-use mathlib.Core.Path.{_≡_, refl, ap, ap₂, _∙_}
+use mathlib.Core.Path.{_≡_, ap, ap₂, _∙_}
 use mathlib.Core.List.{List}
 use mathlib.Core.Logic.{inl, inr, ⊎-elim}
-use Prim.Native.Nat.{ℕ, _+_, _≤_, _<_}
+use Prim.Native.Nat.{ℕ, _+_}
 use native.Mathlib.Omega.{arith}
 use borrow.Author.Needs.{needs}
-use lib.ListN.{length, getD}
+use lib.ListN.{getD}
 use Rattle.stream.proofs.columns.three_on.Statement.{statement}
 use Rattle.stream.proofs.columns.three_on.Tie as tie
 

@@ -2,7 +2,7 @@
 -- Assumes nothing.
 use Rattle.stream.specs.Stages.{Worked}
 use Rattle.stream.specs.Private.{Rings, ringsFrom}
-use mathlib.Core.Path.{_≡_, sym, ap, subst, _∙_}
+use mathlib.Core.Path.{sym, ap, subst, _∙_}
 use borrow.Author.Needs.{needs}
 use lib.ListN.{length}
 use Rattle.stream.proofs.columns.wider.Statement.{statement}

@@ -9,7 +9,7 @@ use borrow.Author.Needs.{needs}
 use lib.Dec.{lit<}
 use lib.ListN.{length, drop}
 use Rattle.spec.specs.Recipe.{widths, weight}
-use Rattle.spec.specs.Stream.{boxCells, boxCost, cascadeCells, cascadeCost}
+use Rattle.spec.specs.Stream.{boxCost, cascadeCells, cascadeCost}
 use Rattle.filter.proofs.Widths.{length-widths, widths-on}
 use Rattle.stream.proofs.Boxes.{cascade-small}
 use Rattle.stream.proofs.Kept.{left-pos, Keeping, keeping-none, keeping-more, keeping-small, keeping-all, next-placed, next-counted, next-weighed}
