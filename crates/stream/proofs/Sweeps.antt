@@ -111,6 +111,10 @@ module _ (w cells : ℕ) (f : ℕ → List ℕ → List ℕ → Worked) (v : Swe
         s .own-is ∙ ap (λ u. f 0 u own₀ .cells) e,
       )
 
+-- the columns that are left after the blocks
+pub length-rest : (row : List ℕ) (from : ℕ) → length (take (length row - from) (drop from row)) ≡ length row - from
+length-rest row from = length-take-le (length row - from) (drop from row) (omega (arith, length-drop from row))
+
 -- ---- the groups
 
 -- a stage on its own part of the cells, as one on all cells

@@ -2,14 +2,14 @@
 -- Assumes nothing.
 use Rattle.stream.specs.Stages.{Worked}
 use Rattle.stream.specs.Private.{pairsFrom}
-use Rattle.stream.proofs.Sweeps.{Swept, swept-none, swept-length, swept-more, swept-all, pairs-sweep}
-use lib.Seq.{length-take-le, drop-drop}
+use Rattle.stream.proofs.Sweeps.{Swept, swept-none, swept-length, swept-more, swept-all, length-rest, pairs-sweep}
+use lib.Seq.{drop-drop}
 use mathlib.Core.Path.{_≡_, refl, sym, ap, ap₂, _∙_}
-use mathlib.Core.List.{List, _++_}
-use Prim.Native.Nat.{ℕ, _+_, _-_, _*_, _≤_}
+use mathlib.Core.List.{_++_}
+use Prim.Native.Nat.{_+_, _-_, _*_, _≤_}
 use native.Mathlib.Omega.{arith}
 use borrow.Author.Needs.{needs}
-use lib.ListN.{length, take, drop, length-drop}
+use lib.ListN.{length, take, drop}
 use Rattle.stream.proofs.columns.pairs.Statement.{statement}
 use Rattle.stream.proofs.columns.pairs.Tie as tie
 
@@ -67,16 +67,12 @@ part-pairs-on-start c = search needs
 part-pairs-on-end : tie.Need-part-pairs-on-end Inv-loop μ-loop
 part-pairs-on-end c = search needs
 
--- the columns that are left
-rest-long : (row : List ℕ) (from : ℕ) → length (take (length row - from) (drop from row)) ≡ length row - from
-rest-long row from = length-take-le (length row - from) (drop from row) (omega (arith, length-drop from row))
-
 pairs-on-requires : tie.Need-pairs-on-requires Inv-loop μ-loop
 pairs-on-requires c κs =
     let turn = c .before .before .before .loop in
     let start = c .before .before .before .before .before .before in
     let a = start .args in
-    let n = rest-long (turn .row) (turn .from) in
+    let n = length-rest (turn .row) (turn .from) in
     (start .pre .0, omega (arith, start .pre .1, turn .inv .1), omega (arith, turn .inv .0, turn .inv .1), turn .inv .2 ∙ start .pre .2 ∙ ap (λ n. a .count * n) (sym (turn .inv .1)))
 
 same-length : tie.Need-same-length Inv-loop μ-loop
