@@ -2,15 +2,15 @@
 -- Assumes nothing.
 use Rattle.stream.specs.Stages.{Worked}
 use Rattle.stream.specs.Private.{Apart, ringsFrom}
-use Rattle.stream.proofs.Sweeps.{Swept, swept-none, swept-length, swept-more, swept-all, rings-sweep, slots-inside}
-use lib.Seq.{length-take-le, drop-drop}
+use Rattle.stream.proofs.Sweeps.{Swept, swept-none, swept-length, swept-more, swept-all, length-rest, rings-sweep, slots-inside}
+use lib.Seq.{drop-drop}
 use mathlib.Core.Path.{_≡_, refl, sym, ap, ap₂, subst, _∙_}
-use mathlib.Core.List.{List, _++_}
+use mathlib.Core.List.{_++_}
 use mathlib.Core.Logic.{inl, inr, ⊎-elim}
-use Prim.Native.Nat.{ℕ, _+_, _-_, _≤_}
+use Prim.Native.Nat.{_+_, _-_, _≤_}
 use native.Mathlib.Omega.{arith}
 use borrow.Author.Needs.{needs}
-use lib.ListN.{length, getD, take, drop, length-drop}
+use lib.ListN.{length, getD, take, drop}
 use Rattle.stream.proofs.columns.three_rings.Statement.{statement}
 use Rattle.stream.proofs.columns.three_rings.Tie as tie
 
@@ -68,16 +68,12 @@ part-rings-on-start c = search needs
 part-rings-on-end : tie.Need-part-rings-on-end Inv-loop μ-loop
 part-rings-on-end c = search needs
 
--- fewer than eight columns are left
-rest-long : (row : List ℕ) (from : ℕ) → length (take (length row - from) (drop from row)) ≡ length row - from
-rest-long row from = length-take-le (length row - from) (drop from row) (omega (arith, length-drop from row))
-
 rings-on-requires : tie.Need-rings-on-requires Inv-loop μ-loop
 rings-on-requires c κs =
     let turn = c .before .before .before .loop in
     let start = c .before .before .before .before .before .before in
     let a = start .args in
-    let n = rest-long (turn .row) (turn .from) in (
+    let n = length-rest (turn .row) (turn .from) in (
       omega arith,
       omega arith,
       λ s h.
