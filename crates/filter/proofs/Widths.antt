@@ -1,6 +1,6 @@
 -- The widths that a cascade holds, and a weight multiplied up over them and held at a limit.
 -- Assumes nothing.
-use mathlib.Core.Path.{_≡_, refl, sym, ap, ap₂, subst, _∙_}
+use mathlib.Core.Path.{_≡_, refl, sym, ap, ap₂, _∙_}
 use mathlib.Core.List.{List, _∷_}
 use Prim.Native.Nat.{ℕ, suc, _+_, _*_, _≤_, _<_, min}
 use native.Mathlib.Nat.{zero-add, mul-add, mul-one, mul-assoc}
@@ -78,22 +78,3 @@ capped-more g₀ cap ws i g n r h p d q =
     ∙ ap₂ (λ x y. min (x * y) cap) p d
     ∙ cap-times (g₀ * weight (take i ws)) (getD ws i 0) cap
     ∙ ap (λ x. min x cap) (mul-assoc g₀ (weight (take i ws)) (getD ws i 0) ∙ ap (λ x. g₀ * x) (sym (product-more ws i h)))
-
--- two at once
-pub summed-two : (f : ℕ → ℕ) (most : ℕ) (c : Cascade) (count i acc : ℕ) → Summed f most c count i acc → (n m v u : ℕ) → i + 1 < count
-    → n ≡ getD (widths c) i 0 → m ≡ getD (widths c) (i + 1) 0 → v ≡ f n → u ≡ f m → v ≤ most → u ≤ most
-    → Summed f most c count (i + 2) (acc + (v + u))
-summed-two f most c count i acc s n m v u h d e p q k l =
-    let one = summed-more f most c count i s n v (omega arith) d p k in
-    let two = summed-more f most c count (i + 1) one m u h e q l in
-    let at : i + 1 + 1 ≡ i + 2 = omega arith in
-    let sum : acc + v + u ≡ acc + (v + u) = omega arith in
-    subst (λ j. Summed f most c count j (acc + (v + u))) at (subst (λ a. Summed f most c count (i + 1 + 1) a) sum two)
-
-pub capped-two : (g₀ cap : ℕ) (ws : List ℕ) (i g n m r : ℕ) → i + 1 < length ws → g ≡ min (g₀ * weight (take i ws)) cap
-    → n ≡ getD ws i 0 → m ≡ getD ws (i + 1) 0 → r ≡ min (g * (n * m)) cap → r ≡ min (g₀ * weight (take (i + 2) ws)) cap
-capped-two g₀ cap ws i g n m r h p d e q =
-    let one = capped-more g₀ cap ws i g n (min (g * n) cap) (omega arith) p d refl in
-    let at : i + 1 + 1 ≡ i + 2 = omega arith in
-    capped-more g₀ cap ws (i + 1) (min (g * n) cap) m r h one e (q ∙ ap (λ x. min x cap) (sym (mul-assoc g n m)) ∙ sym (cap-times (g * n) m cap))
-    ∙ ap (λ j. min (g₀ * weight (take j ws)) cap) at

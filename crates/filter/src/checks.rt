@@ -49,12 +49,12 @@ fn box_order(n: u8) -> usize
     if n == 0 { 0 } else { n as usize - 1 }
 }
 
-// A weight times a width, or times two, held at TOO_HEAVY.
-fn times(gain: u64, by: u64) -> u64
-    requires { ⌜ (gain ≤ 2 ^ 44 + 1) × (by ≤ 255 * 255) ⌝ }
-    ensures { λ r. ⌜ r ≡ min (gain * by) (2 ^ 44 + 1) ⌝ }
+// A weight times a width, held at TOO_HEAVY.
+fn times(gain: u64, n: u8) -> u64
+    requires { ⌜ gain ≤ 2 ^ 44 + 1 ⌝ }
+    ensures { λ r. ⌜ r ≡ min (gain * n) (2 ^ 44 + 1) ⌝ }
 {
-    let product = gain * by;
+    let product = gain * (n as u64);
     if product < TOO_HEAVY {
         product
     } else {
@@ -62,7 +62,6 @@ fn times(gain: u64, by: u64) -> u64
     }
 }
 
-// Two widths a turn: each turn waits for the product and the test of the one before.
 fn survey(list: Cascade, gain: u64) -> Extent
     requires { ⌜ (list .count ≤ 48) × (gain ≤ 2 ^ 44 + 1) ⌝ }
     ensures { λ r. ⌜ (r .order ≡ order (widths list)) × (r .gain ≡ min (gain * weight (widths list)) (2 ^ 44 + 1)) ⌝ }
@@ -70,17 +69,11 @@ fn survey(list: Cascade, gain: u64) -> Extent
     let count = list.count as usize;
     let mut found = Extent { order: 0, gain };
     let mut i: usize = 0;
-    while i + 1 < count {
+    while i < count {
         let n = width_at(list.count, &list.widths, i);
-        let m = width_at(list.count, &list.widths, i + 1);
-        found.order += box_order(n) + box_order(m);
-        found.gain = times(found.gain, (n as u64) * (m as u64));
-        i += 2;
-    }
-    if i < count {
-        let last = width_at(list.count, &list.widths, i);
-        found.order += box_order(last);
-        found.gain = times(found.gain, last as u64);
+        found.order += box_order(n);
+        found.gain = times(found.gain, n);
+        i += 1;
     }
     found
 }
