@@ -1,4 +1,5 @@
--- A weight to divide by, and a sum over it, for every weight and sum.
+-- A weight to divide by, and what is formed of a sum and it, for every weight and sum; where that is the sum over the weight,
+-- `quotient-gray` in proofs/Dividing.antt says.
 use mathlib.Core.Path.{_≡_}
 use mathlib.Core.Bool.{cond}
 use mathlib.Core.List.{List}

@@ -57,7 +57,7 @@ fn by_reciprocal(raised: u64, by: Divisor) -> u64
 }
 
 // A sum over the weight, to the nearest whole number, a half upwards, by a divisor from `divisor_of`, where
-// the sum is at most 255 times the weight; over a weight of 0 it is 1.
+// the weight is at most 2^44 and the sum at most 255 times it; over a weight of 0 it is 1.
 pub fn rounded(sum: u64, by: Divisor) -> u64
     ensures { λ r. ⌜ r ≡ quotient by sum ⌝ }
 {

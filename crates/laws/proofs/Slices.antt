@@ -63,24 +63,6 @@ module _ {A : Type 0} where
   pub mixed-whole : (front back : List A) → length front ≡ length back → Mixed (length back) front back front
   mixed-whole front back e = record { size = e; inside = le-refl (length back); is = sym (mix-whole (length back) front back e (le-refl (length back))) }
 
-  -- nothing needs to be written below i
-  pub mixed-same : (d : A) (i : ℕ) (front back : List A) → length front ≡ length back → i ≤ length back
-      → ((k : ℕ) → k < i → getD front k d ≡ getD back k d) → Mixed i front back back
-  unfolding mix
-  mixed-same d i front back e h same =
-      record {
-        size = e;
-        inside = h;
-        is =
-            sym (take-append-drop i back)
-            ∙ ap (λ l. l ++ drop i back)
-            (ext-getD d (take i back) (take i front)
-            (length-take-le i back h ∙ sym (length-take-le i front (omega arith)))
-            (λ k g.
-            let u : k < i = omega (arith, length-take-le i back h) in
-            getD-take i back k d u ∙ sym (same k u) ∙ sym (getD-take i front k d u)));
-      }
-
   -- what stands before i, and from i on
   module _ (d : A) {i : ℕ} {front back l : List A} (m : Mixed i front back l) where
     taken : length (take i front) ≡ i
@@ -252,13 +234,6 @@ module _ {A : Type 0} (a : ℕ) (ys old : List A) (h : a + length ys ≤ length 
         ∙ getD-append-add ys (drop (a + length ys) old) m d
         ∙ getD-drop (a + length ys) old m d
         ∙ ap (λ n. getD old n d) g
-
-    -- a loop from the left that has come as far as the part, and one that has come to its end
-    pub patched-none : Mixed a patched old old
-    patched-none = mixed-same d a patched old length-patched (omega arith) patched-before
-
-    pub patched-all : {i : ℕ} {l : List A} → Mixed i patched old l → a + length ys ≤ i → l ≡ patched
-    patched-all m g = mixed-early d m (λ k u v. patched-after k (omega arith))
 
 -- A loop that gives each entry k of a slice the value f k.
 module _ {A : Type 0} (f : ℕ → A) (old : List A) where

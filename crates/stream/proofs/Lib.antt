@@ -13,4 +13,4 @@ pub mod Acting
 pub mod Blocks
 pub mod Sweeps
 pub mod States
-pub mod Loading
+pub mod Clearing

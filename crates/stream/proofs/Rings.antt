@@ -31,36 +31,6 @@ module _ (n : ℕ) (pos : 0 < n) where
       let e : 0 * n + 0 ≡ 0 = omega (arith, zero-mul n) in
       ap (λ k. covered n k p) (sym e) ∙ covered-late 0 0 p pos (omega arith) ∙ omega (arith, zero-mul n)
 
-  -- m values more, from a whole number of rounds on
-  module _ (k : ℕ) (whole : k % n ≡ 0) where
-    rounds : k / n * n + 0 ≡ k
-    rounds = omega (arith, div-add-mod' k n)
-
-    pub covered-whole : (p : ℕ) → p < n → covered n k p ≡ k + suc p - n
-    covered-whole p h =
-        ap (λ j. covered n j p) (sym rounds) ∙ covered-late (k / n) 0 p pos (omega arith) ∙ omega (arith, rounds)
-
-    pub lap-early : (m p : ℕ) → m ≤ n → p < m → covered n (k + m) p ≡ k + suc p
-    lap-early m p h l =
-        elim (decLt m n) [
-          | yes g ↦
-              let e : k / n * n + m ≡ k + m = omega (arith, rounds) in
-              ap (λ j. covered n j p) (sym e) ∙ covered-early (k / n) m p g l ∙ omega (arith, rounds)
-          | no g ↦
-              let e : suc (k / n) * n + 0 ≡ k + m = omega (arith, rounds, suc-mul (k / n) n) in
-              ap (λ j. covered n j p) (sym e) ∙ covered-late (suc (k / n)) 0 p pos (omega arith) ∙ omega (arith, rounds, suc-mul (k / n) n)
-        ]
-
-    pub lap-late : (m p : ℕ) → m ≤ n → m ≤ p → p < n → covered n (k + m) p ≡ k + suc p - n
-    lap-late m p h l u =
-        let e : k / n * n + m ≡ k + m = omega (arith, rounds) in
-        ap (λ j. covered n j p) (sym e) ∙ covered-late (k / n) m p (omega arith) l ∙ omega (arith, rounds)
-
-    pub lap-whole : (k + n) % n ≡ 0
-    lap-whole =
-        let e : suc (k / n) * n + 0 ≡ k + n = omega (arith, rounds, suc-mul (k / n) n) in
-        ap (λ j. j % n) (sym e) ∙ digits-mod (suc (k / n)) pos
-
   -- one value more
   module _ (k : ℕ) where
     q : ℕ

@@ -11,7 +11,7 @@ use lib.Dec.{eqb}
 use lib.ListN.{length, getD, take, drop, take-append-drop}
 use lib.Seq.{length-take-le}
 use borrow.Author.Tests.{le-ltb, eqb-true}
-use Rattle.spec.specs.Words.{sum, tab, total, somewhere}
+use Rattle.spec.specs.Words.{sum, tab, somewhere}
 use Rattle.spec.specs.Recipe.{order, weight}
 use Rattle.spec.specs.Stream.{boxCells, cascadeCells}
 use Rattle.laws.proofs.Lists.{nowhere}

@@ -14,7 +14,6 @@ use Rattle.laws.proofs.Lists.{total-more}
 use Rattle.stream.specs.Stages.{slotBefore}
 use Rattle.stream.specs.Private.{Slots, Run}
 use Rattle.stream.proofs.Boxes.{cells-wide}
-use Rattle.stream.proofs.Groups.{placed}
 
 -- ---- the widths that are worked together
 

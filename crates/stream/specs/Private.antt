@@ -1,5 +1,6 @@
 -- Words for the contracts of private functions; no exported contract uses them. What they tell of sizes: a number, or 0, the grown
--- sides and the needed cells. And what a row that ends in black places leaves in the cells of the row list.
+-- sides and the needed cells. What a row that ends in black places leaves in the cells of the row list. And stages of
+-- the column list that are worked together: their slots, and what they make of some columns.
 use mathlib.Core.Path.{_≡_}
 use mathlib.Core.Bool.{cond}
 use mathlib.Core.List.{List, _++_, [], _∷_}

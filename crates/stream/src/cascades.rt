@@ -1,5 +1,6 @@
 // A row through all stages: the row list along it, the column list down the columns, each stage on its own
-// part of the cells. The count of additions and subtractions is summed from the stages.
+// part of the cells. The count of additions and subtractions is that of the stages
+// one after the other, summed over the boxes.
 ghost use mathlib.Core.Path.{_≡_};
 ghost use Prim.Native.Nat.{_+_, _*_, _^_, _≤_, _<_};
 ghost use lib.ListN.{length, getD};

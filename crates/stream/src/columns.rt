@@ -1,5 +1,6 @@
-// The column list on a row. Stages of one kind that follow each other are a group, and a group is worked in
-// one sweep over the row: for each block of eight columns the stages in turn, the values in an array.
+// The column list on a row. Up to eight stages of width 2 that follow each other, or up to three wider ones,
+// are a group, and a group is worked in one sweep over the row: for each block of eight columns the stages
+// in turn, the values in an array.
 ghost use mathlib.Core.Path.{_≡_};
 ghost use mathlib.Core.Bool.{cond};
 ghost use Prim.Native.Nat.{ℕ, _+_, _-_, _*_, _≤_, _<_};
@@ -175,7 +176,7 @@ fn ring_block(
     copy_values(&x[z..few], &mut row[from..to]);
 }
 
-// A group of wider ones.
+// A group of one or two wider ones.
 fn rings(count: usize, befores: &[usize; 3], oldests: &[usize; 3], row: &mut [u64], own: &mut [u64])
     requires { ⌜ (count ≤ 3) × Rings (length (now row)) count (length (now own)) (now befores) (now oldests) ⌝ }
     ensures { λ r. let made = ringsFrom 0 (now (befores .entry)) (now (oldests .entry)) count (now (row .entry)) (now (own .entry)) in
@@ -259,7 +260,8 @@ fn wider(count: usize, befores: &[usize; 3], oldests: &[usize; 3], row: &mut [u6
     }
 }
 
-// How many widths from a place on, the first of them included, lie between two bounds; not more than `longest`.
+// How many widths from a place on, the first of them included, lie between two bounds; not more than
+// `longest`.
 fn alike(list: Cascade, from: usize, least: u8, most: u8, longest: usize) -> usize
     requires { ⌜ (0 < least) × (0 < longest) × (longest ≤ 8) × (from < list .count) × (list .count ≤ 48)
         × (least ≤ getD (widths list) from 0) × (getD (widths list) from 0 ≤ most) ⌝ }

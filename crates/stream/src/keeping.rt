@@ -1,4 +1,4 @@
-// What the row list leaves in its cells: a row that ends in black places is told by its total.
+// What the row list leaves in its cells after a row that ends in black places, from the total of its pixels.
 ghost use mathlib.Core.Path.{_≡_};
 ghost use mathlib.Core.Bool.{cond};
 ghost use mathlib.Core.List.{_++_};
@@ -19,7 +19,7 @@ pub(crate) struct Taken {
 }
 
 // The additions and subtractions of one box at one place.
-pub(crate) fn box_cost(n: u8) -> u64
+fn box_cost(n: u8) -> u64
     ensures { λ r. ⌜ (r ≡ boxCost n) × (r ≤ 2) ⌝ }
 {
     if n < 2 {

@@ -52,14 +52,16 @@ fn digit_count(n: u64) -> usize
     count_up_to_10(n / 10000000000) + 10
 }
 
-// The two digits of each number of 0 to 99. A line makes this table once and lends it: it is copied wherever it is made.
+// The two digits of each number of 0 to 99. It is copied wherever it is made: a line makes it once and
+// lends it.
 fn digit_pairs() -> [u8; 200]
     ensures { λ r. ⌜ r ≡ digitPairs ⌝ }
 {
     *b"00010203040506070809101112131415161718192021222324252627282930313233343536373839404142434445464748495051525354555657585960616263646566676869707172737475767778798081828384858687888990919293949596979899"
 }
 
-// A number's digits into a slice of just as many bytes, two at a time from the last to the first, by a table of the pairs.
+// A number's digits into a slice of just as many bytes, two at a time from the last to the first, by a
+// table of the pairs.
 fn spell(n: u64, pairs: &[u8; 200], out: &mut [u8])
     requires { ⌜ now pairs ≡ digitPairs ⌝ }
     requires { ⌜ length (now out) ≡ length (decimal n) ⌝ }

@@ -25,7 +25,8 @@ fn pairs<T: Copy + Default, const N: usize>(row: &mut [T], add: impl Fn(T, T) ->
     }
 }
 
-/// Boxes of width 2, four in a sweep, then two and one.
+/// Boxes of width 2, four in a sweep, then two and one (the library takes no two
+/// in 16 bits).
 fn all_pairs<T: Copy + Default>(count: usize, row: &mut [T], add: impl Fn(T, T) -> T + Copy) {
     for _ in 0..count / 4 {
         pairs::<T, 4>(row, add);

@@ -2,10 +2,10 @@
 -- Assumes nothing.
 use mathlib.Core.Path.{_≡_, sym, ap, _∙_}
 use mathlib.Core.Logic.{⊎-elim}
-use Prim.Native.Nat.{ℕ, _/_, _^_}
+use Prim.Native.Nat.{_/_, _^_}
 use native.Mathlib.Nat.{div-zero}
 use borrow.Author.Needs.{needs}
-use Rattle.gray.specs.Division.{reciprocalBits, divisor}
+use Rattle.gray.specs.Division.{reciprocalBits}
 use Rattle.gray.proofs.rounding.divisor_of.Statement.{statement}
 use Rattle.gray.proofs.rounding.divisor_of.Tie as tie
 

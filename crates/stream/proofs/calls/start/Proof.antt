@@ -4,7 +4,7 @@ use Rattle.spec.specs.Recipe.{recipe}
 use Rattle.spec.specs.Refusals.{first, startChecks, tooFewCells}
 use Rattle.laws.proofs.Refusals.{lent-refused, lent-accepted, first-front, first-then, size-numbered}
 use Rattle.stream.specs.Calls.{began, started, start}
-use Rattle.stream.proofs.Loading.{cleared}
+use Rattle.stream.proofs.Clearing.{cleared}
 use mathlib.Core.Path.{_≡_, sym, ap, _∙_}
 use mathlib.Core.List.{_++_}
 use native.Mathlib.Omega.{arith}
