@@ -1,7 +1,6 @@
 -- What the difference answers: the order of its checks, by what measuring the recipes told, and the sizes where none of them holds.
 -- Assumes nothing.
 use mathlib.Core.Path.{_≡_, sym, ap, ap₂, _∙_}
-use mathlib.Core.Bool.{cond}
 use mathlib.Core.List.{List, [], _∷_, _++_, append-assoc}
 use Prim.Native.Nat.{ℕ, _+_, _*_, _^_, _≤_}
 use native.Mathlib.Omega.{arith}
@@ -10,7 +9,7 @@ use borrow.Author.Tests.{ltb-false}
 use Rattle.spec.specs.Recipe.{Recipe, recipe, gain}
 use Rattle.spec.specs.Picture.{Picture, fullWidth}
 use Rattle.spec.specs.Refusals.{Check, check, first, otherPixels, otherOutput, tooFewCells, parityDiffers, productTooHeavy, fullSize, recipeChecks, sizeChecks, pictureChecks, differenceChecks}
-use Rattle.laws.proofs.Refusals.{first-front, first-rest, first-then, first-none, none-both, recipe-numbered, size-numbered, same-length-so, is-sized, picture-sides, picture-passed}
+use Rattle.laws.proofs.Refusals.{first-front, first-rest, first-none, recipe-numbered, size-numbered, same-length-so, is-sized, picture-sides, picture-passed, picture-other}
 use Rattle.filter.proofs.Refusal.{Known}
 use Rattle.difference.specs.declared.Operand.{Operand}
 use Rattle.difference.specs.declared.Given.{Given}
@@ -27,15 +26,6 @@ pub record Accepted (a b : Operand) (p : Picture) (out cells : ℕ) (plan : Plan
   pub bMost : plan .«b_width» ≤ 1279
   pub size : out ≡ p .width * p .height
   pub enough : plan .needed ≤ cells
-
--- a picture that is accepted with one recipe is accepted with every accepted recipe
-picture-both : (a b : Recipe) (p : Picture) → first (recipeChecks a) ≡ 0 → first (pictureChecks b p) ≡ 0 → first (pictureChecks a p) ≡ 0
-unfolding pictureChecks sizeChecks
-picture-both a b p z e =
-    let six = none-both (sizeChecks b (p .width) (p .height)) _ (size-numbered b (p .width) (p .height)) e in
-    let five = none-both (recipeChecks b) _ (recipe-numbered b) (six .0) in
-    let sides = first-then (recipeChecks a) _ 5 (recipe-numbered a) z ∙ ap (λ b. cond b 5 0) (first-none _ 4 _ (five .1) .0) in
-    first-then (sizeChecks a (p .width) (p .height)) _ 6 (size-numbered a (p .width) (p .height)) sides ∙ ap (λ b. cond b 6 0) (first-none _ 5 _ (six .1) .0)
 
 -- by the first recipe, or by the second and the sides
 module _ (a b : Recipe) (p : Picture) (out cells : ℕ) where
@@ -117,7 +107,7 @@ module _ (a b : Operand) (p : Picture) (out cells : ℕ) (k : Known (recipe (a .
       record {
         both =
             record {
-              first = picture-both ra rb p (k .none) passed;
+              first = picture-other ra rb p (k .none) passed;
               second = passed;
               firstKnown = k;
               secondKnown = l;

@@ -1,23 +1,20 @@
 -- What forming all exact sums answers: the order of its checks, and what is known once none of them holds.
 -- Assumes nothing.
-use mathlib.Core.Path.{_≡_, refl, sym, ap, ap₂, _∙_}
-use mathlib.Core.Bool.{false, cond, _||_}
+use mathlib.Core.Path.{_≡_, sym, ap, ap₂, _∙_}
+use mathlib.Core.Bool.{cond, _||_}
 use mathlib.Core.List.{List}
 use Prim.Native.Nat.{ℕ, _+_, _-_, _*_, _^_, _≤_, _<_}
 use native.Mathlib.Nat.{le-trans, le-of-eq, mul-one, mul-comm, mul-le-mul, le-mul-of-pos-right}
 use native.Mathlib.Omega.{arith}
-use lib.Dec.{eqb}
 use lib.ListN.{length}
-use borrow.Author.Tests.{ne-eqb, le-ltb}
-use Rattle.spec.specs.Words.{product, somewhere, total}
-use Rattle.spec.specs.Recipe.{Recipe, kernel, boxOrder, order, weight, gain}
+use Rattle.spec.specs.Words.{product, total}
+use Rattle.spec.specs.Recipe.{Recipe, kernel, order, weight, gain}
 use Rattle.spec.specs.Picture.{Picture, exact, fullWidth, fullHeight, full}
-use Rattle.spec.specs.Refusals.{first, check, alone, tooLong, zeroWidth, tooFar, tooHeavy, otherPixels, otherOutput, fullSize, recipeChecks, sizeChecks, pictureChecks, kernelChecks, directChecks}
+use Rattle.spec.specs.Refusals.{first, check, alone, otherPixels, otherOutput, fullSize, recipeChecks, sizeChecks, pictureChecks, kernelChecks, directChecks}
 use Rattle.laws.proofs.Numbers.{neither}
-use Rattle.laws.proofs.Lists.{product-zero}
 use Rattle.laws.proofs.Kernels.{kernel-sum, length-kernel}
 use Rattle.laws.proofs.Exact.{rows-pos, columns-pos}
-use Rattle.laws.proofs.Refusals.{Accepted, AcceptedPicture, as-stated, not-stated, picture-sides, picture-pixels, picture-rest, first-then, first-none, none-both, recipe-numbered, picture-numbered, is-accepted-picture, same-length-so, lent-refused, lent-accepted}
+use Rattle.laws.proofs.Refusals.{Accepted, AcceptedPicture, accepted-none, as-stated, not-stated, picture-sides, picture-pixels, picture-rest, first-then, first-none, none-both, recipe-numbered, picture-numbered, is-accepted-picture, same-length-so, lent-refused, lent-accepted}
 use Rattle.filter.specs.Coefficients.{KernelFilled}
 use Rattle.direct.specs.Formed.{checks, Formed}
 use Rattle.direct.specs.Windows.{window, windows, mass, Ready}
@@ -106,15 +103,17 @@ pub record Light (ns : List ℕ) : Type 0 where
   pub light : weight ns ≤ 2 ^ 44
 
 light-alone : (ns : List ℕ) → Light ns → first (recipeChecks (alone ns)) ≡ 0
-unfolding first recipeChecks check alone tooLong zeroWidth tooFar tooHeavy weight gain product somewhere boxOrder order total
+unfolding alone weight gain product order total
 light-alone ns l =
-    let zeros : somewhere (λ n. eqb n 0) ns ≡ false = product-zero ns ∙ ne-eqb (weight ns) 0 (λ e. omega (arith, l .notZero)) in
-    rw (
-      le-ltb 48 (length ns) (l .short),
-      zeros,
-      le-ltb 255 (order ns) (l .reach),
-      le-ltb (2 ^ 44) (weight ns * 1) (omega (arith, l .light, mul-one (weight ns))),
-    ) refl
+    accepted-none (alone ns)
+    (record {
+      rowsShort = l .short;
+      columnsShort = omega arith;
+      notZero = omega (arith, l .notZero, mul-one (weight ns));
+      rowReach = l .reach;
+      columnReach = omega arith;
+      light = omega (arith, l .light, mul-one (weight ns));
+    })
 
 -- the coefficients of such a list are filled in
 filled-whole : (ns old new : List ℕ) (number : ℕ) → Light ns → length old ≡ order ns + 1 → KernelFilled ns old number new → new ≡ kernel ns

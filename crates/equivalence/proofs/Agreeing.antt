@@ -3,7 +3,6 @@
 -- Assumes nothing.
 use mathlib.Core.Path.{_≡_, refl, sym, ap, ap₂, _∙_}
 use mathlib.Core.Bool.{Bool, true, false, cond, _&&_, true≢false}
-use mathlib.Core.List.{[]}
 use Prim.Native.Nat.{ℕ, zero, suc, _+_, _≤_, _<_}
 use native.Mathlib.Omega.{arith}
 use lib.ListN.{getD}
@@ -11,10 +10,10 @@ use Rattle.spec.specs.declared.Filter.{Filter}
 use Rattle.spec.specs.Recipe.{Recipe, recipe, order, gain}
 use Rattle.spec.specs.Picture.{largestGray, Within, Sides, fullSides, fullWidth, fullHeight, exact, fullRow}
 use Rattle.spec.specs.Same.{sameCounts, equivalent, SameCounts}
-use Rattle.spec.specs.Refusals.{Answer, first, accepted, recipeChecks, sizeChecks, pictureChecks, compareChecks, badSides, badSide}
+use Rattle.spec.specs.Refusals.{Answer, first, accepted, recipeChecks, sizeChecks, compareChecks, badSides, badSide}
 use Rattle.laws.proofs.Numbers.{both}
 use Rattle.laws.proofs.Lists.{getD-tab}
-use Rattle.laws.proofs.Refusals.{first-rest, first-then, first-none, none-both, recipe-numbered, size-numbered, picture-passed, answer-accepted, is-accepted, is-accepted-picture}
+use Rattle.laws.proofs.Refusals.{first-rest, first-then, recipe-numbered, picture-passed, picture-other, answer-accepted, is-accepted}
 use Rattle.laws.proofs.Counts.{same-balanced, balanced-same}
 use Rattle.laws.proofs.Sameness.{dot, counts-gain, counts-width, counts-height, counts-row, sums-counts}
 use Rattle.equivalence.specs.declared.Comparison.{Comparison}
@@ -117,10 +116,4 @@ same-exactly a b known other-known told e =
 
 -- acceptance of a picture is by its sides and its pixels, whatever the recipe
 pub accepted-alike : AcceptedAlike
-unfolding sizeChecks pictureChecks
-accepted-alike a b known p shown =
-    let sized = none-both (sizeChecks a (p .width) (p .height)) _ (size-numbered a (p .width) (p .height)) (shown .checked) .0 in
-    let sides = none-both (recipeChecks a) _ (recipe-numbered a) sized .1 in
-    let good = first-none (badSides (p .width) (p .height)) 4 [] sides .0 in
-    let other = first-then (recipeChecks b) (badSides (p .width) (p .height)) 5 (recipe-numbered b) known ∙ ap (λ c. cond c 5 0) good in
-    record { checked = picture-passed b p other (is-accepted-picture a p (shown .checked) .size); bytes = shown .bytes }
+accepted-alike a b known p shown = record { checked = picture-other b a p known (shown .checked); bytes = shown .bytes }

@@ -12,5 +12,8 @@ pub mod Counts
 pub mod Integrators
 pub mod Spreads
 pub mod Exact
+pub mod Flat
+pub mod Joining
+pub mod Ladder
 pub mod Ranges
 pub mod Sameness

@@ -121,6 +121,20 @@ is-accepted r e =
       light = ltb-false (2 ^ 44) (gain r) (four .0);
     }
 
+pub accepted-none : (r : Recipe) → Accepted r → first (recipeChecks r) ≡ 0
+unfolding first check recipeChecks tooLong zeroWidth tooFar tooHeavy weight gain
+accepted-none r k =
+    let zeros = ap₂ _||_ (product-zero (r .rows)) (product-zero (r .columns)) ∙ zero-factor (weight (r .rows)) (weight (r .columns))
+    ∙ ne-eqb (weight (r .rows) * weight (r .columns)) 0 (λ e. omega (arith, k .notZero)) in
+    rw (
+      le-ltb 48 (length (r .rows)) (k .rowsShort),
+      le-ltb 48 (length (r .columns)) (k .columnsShort),
+      zeros,
+      le-ltb 255 (order (r .rows)) (k .rowReach),
+      le-ltb 255 (order (r .columns)) (k .columnReach),
+      le-ltb (2 ^ 44) (gain r) (k .light),
+    ) refl
+
 pub recipe-numbered : (r : Recipe) → Numbered (recipeChecks r)
 unfolding recipeChecks check
 recipe-numbered r = (omega arith, (omega arith, (omega arith, (omega arith, tt))))
@@ -222,6 +236,15 @@ module _ (r : Recipe) (p : Picture) where
   pub picture-rest : (ds : List Check) → first (sizeChecks r (p .width) (p .height)) ≡ 0 → length (p .pixels) ≡ p .width * p .height
       → first (pictureChecks r p ++ ds) ≡ first ds
   picture-rest ds z e = first-rest (pictureChecks r p) ds (picture-numbered r p) (picture-passed z e)
+
+-- a picture that is accepted with one recipe is accepted with every accepted recipe
+pub picture-other : (a b : Recipe) (p : Picture) → first (recipeChecks a) ≡ 0 → first (pictureChecks b p) ≡ 0 → first (pictureChecks a p) ≡ 0
+unfolding pictureChecks sizeChecks
+picture-other a b p z e =
+    let six = none-both (sizeChecks b (p .width) (p .height)) _ (size-numbered b (p .width) (p .height)) e in
+    let five = none-both (recipeChecks b) _ (recipe-numbered b) (six .0) in
+    let sides = first-then (recipeChecks a) _ 5 (recipe-numbered a) z ∙ ap (λ c. cond c 5 0) (first-none _ 4 _ (five .1) .0) in
+    picture-passed a p sides (is-accepted-picture b p e .size)
 
 -- a call that makes something: on a refusal nothing is written; otherwise all is
 module _ {A : Type 0} (cs : List Check) (made : A) (needed : ℕ) (out : A) (cells : List ℕ) where

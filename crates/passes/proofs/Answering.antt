@@ -1,13 +1,17 @@
--- What the checks of the method answer, by the lengths of the slices.
+-- What the checks of the method answer, by the lengths of the slices, and those of the ladder, by the level first.
 -- Assumes nothing.
-use mathlib.Core.Path.{_≡_, _∙_}
+use mathlib.Core.Path.{_≡_, refl, _∙_}
+use mathlib.Core.Bool.{true, false}
 use mathlib.Core.List.{[], _∷_}
 use Prim.Native.Nat.{ℕ, _*_, _≤_, _<_}
+use lib.Dec.{eqb, ltb}
 use lib.ListN.{length}
 use borrow.Author.Tests.{ltb-false}
 use Rattle.spec.specs.Recipe.{Recipe}
 use Rattle.spec.specs.Picture.{Picture}
-use Rattle.spec.specs.Refusals.{check, first, otherPixels, otherOutput, tooFewCells, fullSize, sizeChecks, pictureChecks, passChecks}
+use Rattle.spec.specs.Ladder.{Axes, ladder}
+use Rattle.spec.specs.Refusals.{check, first, otherPixels, otherOutput, tooFewCells, badLevel, fullSize, sizeChecks, pictureChecks, passChecks, ladderChecks}
+use Rattle.laws.proofs.Numbers.{neither}
 use Rattle.laws.proofs.Refusals.{AcceptedPicture, is-accepted-picture, none-both, first-none, same-length-so, picture-numbered, picture-sides, picture-pixels, picture-rest, by-output, after-output, by-cells, after-cells}
 
 module _ (r : Recipe) (p : Picture) (out cells : ℕ) where
@@ -57,3 +61,17 @@ module _ (r : Recipe) (p : Picture) (out cells : ℕ) where
         output = same-length-so out (fullSize r p) (seven .0);
         work = ltb-false cells (fullSize r p) (eight .0);
       }
+
+-- the ladder: 16, and where the level is one of 1 to 8 the checks of the method
+pub by-level : (a : Axes) (level : ℕ) (p : Picture) (out cells : ℕ) → badLevel level ≡ true → first (ladderChecks a level p out cells) ≡ 16
+unfolding ladderChecks check first
+by-level a level p out cells e = rw e refl
+
+pub after-level : (a : Axes) (level : ℕ) (p : Picture) (out cells : ℕ) → badLevel level ≡ false
+    → first (ladderChecks a level p out cells) ≡ first (passChecks (ladder a level) p out cells)
+unfolding ladderChecks check first
+after-level a level p out cells e = rw e refl
+
+pub good-level : (level : ℕ) → badLevel level ≡ false → level ≤ 8
+unfolding badLevel
+good-level level e = ltb-false 8 level (neither (eqb level 0) (ltb 8 level) e .1)

@@ -2,7 +2,7 @@
 -- Assumes nothing.
 use mathlib.Core.Path.{_≡_, refl, sym, ap, _∙_}
 use mathlib.Core.Bool.{Bool, true, false, not, cond}
-use mathlib.Core.List.{List, [], _∷_}
+use mathlib.Core.List.{List, [], _∷_, _++_}
 use Prim.Native.Nat.{ℕ, suc, _≤_, _<_}
 use native.Mathlib.Nat.{le-trans, le-of-eq, mul-comm}
 use native.Mathlib.Omega.{arith}
@@ -10,12 +10,12 @@ use lib.Dec.{eqb}
 use lib.ListN.{length, take, drop, take-append-drop, drop-of-length-le}
 use Rattle.spec.specs.declared.Cascade.{Cascade}
 use Rattle.spec.specs.Words.{product}
-use Rattle.spec.specs.Recipe.{widths, weight}
+use Rattle.spec.specs.Recipe.{Recipe, widths, weight, joined}
 use Rattle.laws.proofs.Lists.{factor-pos, product-append}
 use Rattle.laws.proofs.Kernels.{at}
 use Rattle.laws.proofs.Cascades.{spread, cascaded, cascaded-agree, cascaded-grows}
 use Rattle.filter.proofs.Widths.{length-widths}
-use Rattle.passes.specs.Steps.{Below, Small, present, turned, turnedBy}
+use Rattle.passes.specs.Steps.{Below, Small, present, turned, turnedBy, turnedAll}
 
 not-not : (b : Bool) → not (not b) ≡ b
 not-not true = refl
@@ -58,6 +58,24 @@ unfolding turnedBy
 turnedBy-twice [] b = refl
 turnedBy-twice (n ∷ ns) b =
     ap (turnedBy ns) (sym (turnedBy-turned ns n (turned n b)) ∙ ap (turnedBy ns) (turned-twice n b)) ∙ turnedBy-twice ns b
+
+-- widths in two lists, one after the other and in either order, and so of two recipes
+turnedBy-append : (ns ms : List ℕ) (b : Bool) → turnedBy (ns ++ ms) b ≡ turnedBy ms (turnedBy ns b)
+unfolding turnedBy
+turnedBy-append [] ms b = refl
+turnedBy-append (n ∷ ns) ms b = turnedBy-append ns ms (turned n b)
+
+turnedBy-comm : (ns ms : List ℕ) (b : Bool) → turnedBy ns (turnedBy ms b) ≡ turnedBy ms (turnedBy ns b)
+unfolding turnedBy
+turnedBy-comm [] ms b = refl
+turnedBy-comm (n ∷ ns) ms b = ap (turnedBy ns) (sym (turnedBy-turned ms n b)) ∙ turnedBy-comm ns ms (turned n b)
+
+pub turned-joined : (r s : Recipe) (b : Bool) → turnedAll s (turnedAll r b) ≡ turnedAll (joined r s) b
+unfolding joined
+turned-joined r s b =
+    ap (turnedBy (s .columns)) (turnedBy-comm (s .rows) (r .columns) (turnedBy (r .rows) b))
+    ∙ sym (turnedBy-append (r .columns) (s .columns) (turnedBy (s .rows) (turnedBy (r .rows) b)))
+    ∙ ap (turnedBy (r .columns ++ s .columns)) (sym (turnedBy-append (r .rows) (s .rows) b))
 
 -- no widths are left past the count
 pub widths-past : (c : Cascade) (i : ℕ) → c .count ≤ i → drop i (widths c) ≡ []

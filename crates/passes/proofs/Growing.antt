@@ -8,8 +8,8 @@ use native.Mathlib.Numerals.{add-one}
 use native.Mathlib.Omega.{arith}
 use Rattle.spec.specs.Picture.{Picture, pixel}
 use Rattle.laws.proofs.Kernels.{at}
-use Rattle.passes.specs.Steps.{flat, Below, Rewritten}
-use Rattle.passes.proofs.Flat.{flat-at}
+use Rattle.laws.proofs.Flat.{flat, flat-at}
+use Rattle.passes.specs.Steps.{Below, Rewritten}
 use Rattle.laws.proofs.Exact.{pixel-right, pixel-below, pixel-inside}
 use Rattle.passes.proofs.Writing.{below-rewritten}
 

@@ -13,8 +13,9 @@ use Rattle.laws.proofs.Kernels.{at}
 use Rattle.laws.proofs.Cascades.{cascaded, cascaded-agree, cascaded-grows}
 use Rattle.laws.proofs.Exact.{columns-pos}
 use Rattle.laws.proofs.Refusals.{AcceptedPicture}
-use Rattle.passes.specs.Steps.{flat, filtered, Below, Small}
-use Rattle.passes.proofs.Flat.{filtered-full, filtered-small}
+use Rattle.laws.proofs.Flat.{flat, filtered, filtered-full, filtered-small}
+use Rattle.laws.proofs.Joining.{filtered-agree}
+use Rattle.passes.specs.Steps.{Below, Small}
 
 -- over what stands in a list
 module _ (r : Recipe) (W size : ℕ) (now : List ℕ) (small : Small size (filtered r W (at now))) where
@@ -34,10 +35,7 @@ module _ (r : Recipe) (W size : ℕ) (now : List ℕ) (small : Small size (filte
 module _ (r : Recipe) (p : Picture) (W size : ℕ) (a : AcceptedPicture r p) (room : p .width + order (r .rows) ≤ W)
     (now : List ℕ) (b : Below size (flat p W) now) where
   agrees : (k : ℕ) → k < size → filtered r W (at now) k ≡ filtered r W (flat p W) k
-  unfolding filtered
-  agrees k h =
-      cascaded-agree W (r .columns) (cascaded 1 (r .rows) (at now)) (cascaded 1 (r .rows) (flat p W)) k
-      (λ i l. cascaded-agree 1 (r .rows) (at now) (flat p W) i (λ j m. b j (omega arith)))
+  agrees k h = filtered-agree r W (at now) (flat p W) k (λ j l. b j (omega arith))
 
   pub picture-small : (most : ℕ) → most ≤ 65535 → ((k : ℕ) → getD (p .pixels) k 0 ≤ most) → Small size (filtered r W (at now))
   picture-small most deep small k h =

@@ -2,21 +2,12 @@
 use mathlib.Core.Path.{_≡_}
 use mathlib.Core.Bool.{Bool, true, false, not, cond}
 use mathlib.Core.List.{List, [], _∷_}
-use Prim.Native.Nat.{ℕ, _*_, _/_, _%_, _^_, _≤_, _<_}
+use Prim.Native.Nat.{ℕ, _*_, _^_, _≤_, _<_}
 use lib.Dec.{eqb}
 use lib.ListN.{length}
 use Rattle.spec.specs.Recipe.{Recipe}
-use Rattle.spec.specs.Picture.{Picture, pixel}
 use Rattle.laws.proofs.Kernels.{at}
-use Rattle.laws.proofs.Cascades.{spread, cascaded}
-
--- a picture in rows of W places, one after the other: its pixels, and black to their right and below them
-unfoldable pub flat : Picture → ℕ → ℕ → ℕ
-flat p W k = pixel p (k % W) (k / W)
-
--- a recipe's widths over a sequence in rows of W places: the row widths, and then the column widths
-unfoldable pub filtered : Recipe → ℕ → (ℕ → ℕ) → ℕ → ℕ
-filtered r W f = cascaded W (r .columns) (cascaded 1 (r .rows) f)
+use Rattle.laws.proofs.Cascades.{spread}
 
 -- a list that holds a sequence below a place
 abbrev pub Below : ℕ → (ℕ → ℕ) → List ℕ → Type 0
@@ -52,3 +43,7 @@ turned n b = cond (eqb n 1) b (not b)
 unfoldable pub turnedBy : List ℕ → Bool → Bool
 turnedBy [] b = b
 turnedBy (n ∷ ns) b = turnedBy ns (turned n b)
+
+-- so by all widths of a recipe
+abbrev pub turnedAll : Recipe → Bool → Bool
+turnedAll r b = turnedBy (r .columns) (turnedBy (r .rows) b)

@@ -7,7 +7,8 @@ ghost use Rattle.spec.specs.Recipe.{widths, weight, recipe};
 ghost use Rattle.laws.proofs.Kernels.{at, Holds};
 ghost use Rattle.laws.proofs.Cascades.{spread, cascaded};
 ghost use Rattle.laws.proofs.Refusals.{Accepted};
-ghost use Rattle.passes.specs.Steps.{filtered, Below, Small, Ready, present, turned, turnedBy};
+ghost use Rattle.laws.proofs.Flat.{filtered};
+ghost use Rattle.passes.specs.Steps.{Below, Small, Ready, present, turned, turnedBy, turnedAll};
 use crate::columns::column_pass;
 use crate::rows::row_pass;
 use filter::width_at;
@@ -93,7 +94,7 @@ fn cascade(list: Cascade, step: usize, in_out: bool, out: &mut [u64], work: &mut
 // Whether the picture has to begin in `out` for a filter's passes to end there.
 pub(crate) fn begins_in_out(filter: Filter) -> bool
     requires { ⌜ Accepted (recipe filter) ⌝ }
-    ensures { λ r. ⌜ turnedBy (recipe filter .columns) (turnedBy (recipe filter .rows) r) ≡ true ⌝ }
+    ensures { λ r. ⌜ turnedAll (recipe filter) r ≡ true ⌝ }
 {
     let before_columns = turns(filter.columns, true);
     turns(filter.rows, before_columns)
@@ -110,7 +111,7 @@ pub(crate) fn carry(
 ) -> bool
     requires { ⌜ Accepted (recipe filter) × (length (now work) ≡ length (now out)) × (0 < «full_width») × (255 * «full_width» ≤ 2 ^ 32)
         × Small (length (now out)) (filtered (recipe filter) «full_width» (at (present «in_out» (now out) (now work)))) ⌝ }
-    ensures { λ r. ⌜ (r ≡ turnedBy (recipe filter .columns) (turnedBy (recipe filter .rows) «in_out»))
+    ensures { λ r. ⌜ (r ≡ turnedAll (recipe filter) «in_out»)
         × Below (length (now (out .entry))) (filtered (recipe filter) «full_width» (at (present «in_out» (now (out .entry)) (now (work .entry))))) (present r (now (out .exit)) (now (work .exit))) ⌝ }
 {
     let held = cascade(filter.rows, 1, in_out, out, work);

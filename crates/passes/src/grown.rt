@@ -4,7 +4,8 @@ ghost use Prim.Native.Nat.{_+_, _-_, _*_, _≤_, _<_};
 ghost use lib.ListN.{length};
 ghost use Rattle.spec.specs.Picture.{picture};
 ghost use Rattle.laws.proofs.Kernels.{at, Holds};
-ghost use Rattle.passes.specs.Steps.{flat, Below, Rewritten, present};
+ghost use Rattle.laws.proofs.Flat.{flat};
+ghost use Rattle.passes.specs.Steps.{Below, Rewritten, present};
 
 // A pixel as a sum.
 fn wide(x: u8) -> u64

@@ -14,6 +14,7 @@ ghost use Rattle.filter.specs.Answers.{sizeTold};
 ghost use Rattle.passes.specs.Passed.{Passed};
 
 mod cascades;
+mod climbing;
 mod columns;
 mod grown;
 mod rows;
@@ -21,6 +22,8 @@ mod rows;
 use crate::cascades::begins_in_out;
 use crate::cascades::carry;
 use crate::grown::place;
+pub use climbing::Axes;
+pub use climbing::ladder;
 use filter::FullSize;
 use spec::Filter;
 
@@ -48,7 +51,7 @@ fn run(
 }
 
 // The grown sides of a picture, where its slices have these lengths: refused by 1 to 8.
-fn checked_size(
+pub(crate) fn checked_size(
     filter: Filter,
     width: usize,
     height: usize,

@@ -1,5 +1,6 @@
 -- Examples of definitions that no ◆ case reaches, each computed: the numbers of each call's checks in their order, each condition on both
--- sides of its limit, the cells and the cost of the one pass, counts of widths, recipes that are told apart, and what filters hold.
+-- sides of its limit, the cells and the cost of the one pass, the levels of the ladder, joined recipes, counts of widths, recipes that are
+-- told apart, and what filters hold.
 -- Assumes nothing.
 use mathlib.Core.Path.{_≡_, refl}
 use mathlib.Core.Bool.{true, false}
@@ -9,9 +10,10 @@ use lib.ListN.{replicate}
 use Rattle.spec.specs.declared.Filter.{Filter}
 use Rattle.spec.specs.Words.{sum, tab, part, total, product, somewhere, everywhere, keep, occurs}
 use Rattle.spec.specs.Same.{struck, sameCounts, equivalent}
-use Rattle.spec.specs.Recipe.{Recipe, widths, recipe, held, heldFilter, boxOrder, order, weight, gain}
-use Rattle.spec.specs.Picture.{Picture, fullWidth, fullHeight}
+use Rattle.spec.specs.Recipe.{Recipe, widths, recipe, held, heldFilter, boxOrder, order, weight, gain, joined}
+use Rattle.spec.specs.Picture.{Picture, picture, fullWidth, fullHeight, grown}
 use Rattle.spec.specs.Stream.{State, stateWith, boxCells, cascadeCells, streamCells, boxCost, cascadeCost, rowCost}
+use Rattle.spec.specs.Ladder.{rungs, Axes, rowsOnly, bothAxes, onAxes, ladder, rung}
 use Rattle.spec.specs.Job.{mark, version, read16, jobLength, jobRecipe, jobWidth, jobHeight}
 use Rattle.spec.specs.Cases.{recipeOf, twos, exampleJob}
 use Rattle.spec.specs.Refusals
@@ -21,7 +23,7 @@ use Rattle.spec.specs.Refusals.{Check, check}
 abbrev numbers : List Check → List ℕ
 numbers cs = map (λ (c : Check). c .number) cs
 
-module _ (r q : Recipe) (p : Picture) (s : State) (xs : List ℕ) (k m n : ℕ) where
+module _ (r q : Recipe) (a : Axes) (p : Picture) (s : State) (xs : List ℕ) (k m n : ℕ) where
   pub orders :
       numbers (Refusals.recipeChecks r)
       ∷ numbers (Refusals.kernelChecks xs k)
@@ -31,6 +33,7 @@ module _ (r q : Recipe) (p : Picture) (s : State) (xs : List ℕ) (k m n : ℕ) 
       ∷ numbers (Refusals.rowChecks s k m n)
       ∷ numbers (Refusals.drainChecks s k m)
       ∷ numbers (Refusals.passChecks r p k m)
+      ∷ numbers (Refusals.ladderChecks a k p m n)
       ∷ numbers (Refusals.directChecks r p k m n)
       ∷ numbers (Refusals.roundChecks r xs k)
       ∷ numbers (Refusals.sameSizeChecks r p k m)
@@ -49,6 +52,7 @@ module _ (r q : Recipe) (p : Picture) (s : State) (xs : List ℕ) (k m n : ℕ) 
       ∷ (9 ∷ 10 ∷ 6 ∷ 7 ∷ 8 ∷ [])
       ∷ (9 ∷ 10 ∷ 7 ∷ 8 ∷ [])
       ∷ (1 ∷ 2 ∷ 3 ∷ 4 ∷ 5 ∷ 6 ∷ 7 ∷ 8 ∷ [])
+      ∷ (16 ∷ 1 ∷ 2 ∷ 3 ∷ 4 ∷ 5 ∷ 6 ∷ 7 ∷ 8 ∷ [])
       ∷ (1 ∷ 2 ∷ 3 ∷ 4 ∷ 5 ∷ 6 ∷ 7 ∷ [])
       ∷ (1 ∷ 2 ∷ 3 ∷ 4 ∷ 7 ∷ 11 ∷ [])
       ∷ (1 ∷ 2 ∷ 3 ∷ 4 ∷ 5 ∷ 6 ∷ 7 ∷ 8 ∷ [])
@@ -59,7 +63,7 @@ module _ (r q : Recipe) (p : Picture) (s : State) (xs : List ℕ) (k m n : ℕ) 
       ∷ (1 ∷ 2 ∷ 3 ∷ 4 ∷ 5 ∷ 6 ∷ 7 ∷ [])
       ∷ (14 ∷ 14 ∷ 1 ∷ 14 ∷ 1 ∷ 2 ∷ 3 ∷ 4 ∷ 5 ∷ 14 ∷ 8 ∷ [])
       ∷ []
-  unfolding check Refusals.recipeChecks Refusals.kernelChecks Refusals.sizeChecks Refusals.cellChecks Refusals.pictureChecks Refusals.startChecks Refusals.rowChecks Refusals.drainChecks Refusals.passChecks Refusals.directChecks Refusals.roundChecks Refusals.sameSizeChecks Refusals.differenceChecks Refusals.readingChecks Refusals.compareChecks Refusals.jobChecks Refusals.writeChecks Refusals.programChecks
+  unfolding check Refusals.recipeChecks Refusals.kernelChecks Refusals.sizeChecks Refusals.cellChecks Refusals.pictureChecks Refusals.startChecks Refusals.rowChecks Refusals.drainChecks Refusals.passChecks Refusals.ladderChecks Refusals.directChecks Refusals.roundChecks Refusals.sameSizeChecks Refusals.differenceChecks Refusals.readingChecks Refusals.compareChecks Refusals.jobChecks Refusals.writeChecks Refusals.programChecks
   orders = refl
 
 -- a state of a recipe on a picture of 2 by 3
@@ -103,6 +107,8 @@ pub limits :
     ∷ Refusals.overProgram (replicate 65536 0) ∷ Refusals.overProgram (replicate 65537 0)
     -- 15
     ∷ Refusals.outside 2 3 1 2 ∷ Refusals.outside 2 3 2 2 ∷ Refusals.outside 2 3 1 3
+    -- 16
+    ∷ Refusals.badLevel 1 ∷ Refusals.badLevel 8 ∷ Refusals.badLevel 0 ∷ Refusals.badLevel 9
     ∷ []
     ≡ false ∷ true ∷ true
     ∷ false ∷ true ∷ true
@@ -126,14 +132,48 @@ pub limits :
     ∷ false ∷ true ∷ true
     ∷ false ∷ true
     ∷ false ∷ true ∷ true
+    ∷ false ∷ false ∷ true ∷ true
     ∷ []
-unfolding sum tab part total product somewhere boxOrder order weight gain fullWidth fullHeight mark version read16 jobRecipe jobWidth jobHeight jobLength Refusals.tooLong Refusals.zeroWidth Refusals.tooFar Refusals.tooHeavy Refusals.badSide Refusals.badSides Refusals.otherPixels Refusals.otherOutput Refusals.tooFewCells Refusals.badState Refusals.rowNotDue Refusals.drainNotDue Refusals.tooBright Refusals.oddApart Refusals.parityDiffers Refusals.productTooHeavy Refusals.badHead Refusals.cutShort Refusals.otherTotal Refusals.overProgram Refusals.outside
+unfolding sum tab part total product somewhere boxOrder order weight gain fullWidth fullHeight mark version read16 jobRecipe jobWidth jobHeight jobLength Refusals.tooLong Refusals.zeroWidth Refusals.tooFar Refusals.tooHeavy Refusals.badSide Refusals.badSides Refusals.otherPixels Refusals.otherOutput Refusals.tooFewCells Refusals.badState Refusals.rowNotDue Refusals.drainNotDue Refusals.tooBright Refusals.oddApart Refusals.parityDiffers Refusals.productTooHeavy Refusals.badHead Refusals.cutShort Refusals.otherTotal Refusals.overProgram Refusals.outside Refusals.badLevel
 limits = refl
 
 -- rows 1,2,3, columns 2 on a width of 4: the grown width is 7, the rows need 4 cells and cost 3, the columns 1 and 1
 pub one-pass : streamCells (recipeOf (1 ∷ 2 ∷ 3 ∷ []) (2 ∷ [])) 4 ∷ rowCost (recipeOf (1 ∷ 2 ∷ 3 ∷ []) (2 ∷ [])) 4 ∷ [] ≡ 11 ∷ 28 ∷ []
 unfolding total boxOrder order fullWidth boxCells cascadeCells streamCells boxCost cascadeCost rowCost
 one-pass = refl
+
+-- the ladder: levels 1, 2 and 8 along the rows, level 1 on both axes, and the one new widths of levels 2 and 8
+pub levels :
+    ladder rowsOnly 1 ∷ ladder rowsOnly 2 ∷ ladder rowsOnly 8 ∷ ladder bothAxes 1 ∷ rung rowsOnly 2 ∷ rung bothAxes 8 ∷ []
+    ≡ recipeOf (2 ∷ 3 ∷ 4 ∷ []) []
+    ∷ recipeOf (2 ∷ 3 ∷ 4 ∷ 6 ∷ []) []
+    ∷ recipeOf (2 ∷ 3 ∷ 4 ∷ 6 ∷ 8 ∷ 12 ∷ 16 ∷ 24 ∷ 32 ∷ 48 ∷ []) []
+    ∷ recipeOf (2 ∷ 3 ∷ 4 ∷ []) (2 ∷ 3 ∷ 4 ∷ [])
+    ∷ recipeOf (6 ∷ []) []
+    ∷ recipeOf (48 ∷ []) (48 ∷ [])
+    ∷ []
+unfolding rungs onAxes ladder rung
+levels = refl
+
+-- what each level answers on a picture of 1 by 1 with an output and cells of the size of the level: level 0, levels 1 to 8, level 9
+abbrev climbed : Axes → List ℕ
+climbed a =
+    map (λ k. Refusals.first (Refusals.ladderChecks a k (picture 1 1 (0 ∷ [])) (Refusals.fullSize (ladder a k) (picture 1 1 (0 ∷ []))) (Refusals.fullSize (ladder a k) (picture 1 1 (0 ∷ [])))))
+    (tab 10 (λ k. k))
+
+pub levels-accepted : climbed rowsOnly ∷ climbed bothAxes ∷ []
+    ≡ (16 ∷ 0 ∷ 0 ∷ 0 ∷ 0 ∷ 0 ∷ 0 ∷ 0 ∷ 0 ∷ 16 ∷ []) ∷ (16 ∷ 0 ∷ 0 ∷ 0 ∷ 0 ∷ 0 ∷ 4 ∷ 4 ∷ 4 ∷ 16 ∷ []) ∷ []
+unfolding tab total product somewhere boxOrder order weight gain fullWidth fullHeight rungs onAxes ladder check Refusals.tooLong Refusals.zeroWidth Refusals.tooFar Refusals.tooHeavy Refusals.badSide Refusals.badSides Refusals.otherPixels Refusals.otherOutput Refusals.tooFewCells Refusals.badLevel Refusals.first Refusals.recipeChecks Refusals.sizeChecks Refusals.pictureChecks Refusals.fullSize Refusals.passChecks Refusals.ladderChecks
+levels-accepted = refl
+
+-- a recipe joined to another, and its sums as a picture
+pub joined-lists : joined (recipeOf (2 ∷ 3 ∷ []) (4 ∷ [])) (recipeOf (5 ∷ []) (6 ∷ 7 ∷ [])) ≡ recipeOf (2 ∷ 3 ∷ 5 ∷ []) (4 ∷ 6 ∷ 7 ∷ [])
+unfolding joined
+joined-lists = refl
+
+pub grown-sides : grown (recipeOf (3 ∷ []) (5 ∷ [])) 2 1 (7 ∷ []) ≡ picture 4 5 (7 ∷ [])
+unfolding total boxOrder order fullWidth fullHeight grown
+grown-sides = refl
 
 -- how often a width occurs, with widths of 1 struck out and without
 pub counted : occurs 2 (2 ∷ 1 ∷ 3 ∷ 2 ∷ []) ∷ occurs 1 (struck (2 ∷ 1 ∷ [])) ∷ occurs 2 (struck (2 ∷ 1 ∷ [])) ∷ [] ≡ 2 ∷ 0 ∷ 1 ∷ []

@@ -2,6 +2,7 @@ pub mod Words
 pub mod Recipe
 pub mod Picture
 pub mod Stream
+pub mod Ladder
 pub mod Gray
 pub mod Same
 pub mod Job

@@ -60,3 +60,7 @@ fullRow r p j = tab (fullWidth r (p .width)) (λ i. exact r p i j)
 
 unfoldable pub full : Recipe → Picture → List ℕ
 full r p = flatten (tab (fullHeight r (p .height)) (λ j. fullRow r p j))
+
+-- Document 02: the exact sums of a recipe over a picture w wide and h high, as a picture of that grown size.
+unfoldable pub grown : Recipe → ℕ → ℕ → List ℕ → Picture
+grown r w h sums = picture (fullWidth r w) (fullHeight r h) sums

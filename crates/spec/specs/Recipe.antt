@@ -1,5 +1,5 @@
 -- Document 01, "Recipe and exact sum", its first part: the recipe, its coefficients, reaches and weight.
-use mathlib.Core.List.{List, [], _∷_}
+use mathlib.Core.List.{List, [], _∷_, _++_}
 use Prim.Native.Nat.{ℕ, suc, _+_, _-_, _*_}
 use lib.ListN.{length, getD, replicate}
 use Rattle.spec.specs.declared.Cascade.{Cascade}
@@ -61,3 +61,7 @@ weight ns = product ns
 -- Weight: the product of all widths in both lists.
 unfoldable pub gain : Recipe → ℕ
 gain r = weight (r .rows) * weight (r .columns)
+
+-- Document 02: a recipe with another's lists added on the end.
+unfoldable pub joined : Recipe → Recipe → Recipe
+joined a b = record { rows = a .rows ++ b .rows; columns = a .columns ++ b .columns }

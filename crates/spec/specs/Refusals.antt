@@ -9,6 +9,7 @@ use Rattle.spec.specs.Words.{somewhere}
 use Rattle.spec.specs.Recipe.{Recipe, order, gain}
 use Rattle.spec.specs.Picture.{Picture, largestGray, fullWidth, fullHeight}
 use Rattle.spec.specs.Stream.{State, streamCells}
+use Rattle.spec.specs.Ladder.{Axes, ladder}
 use Rattle.spec.specs.Job.{mark, version, read16, jobRecipe, jobWidth, jobHeight, jobLength}
 
 -- ---- the conditions
@@ -95,6 +96,10 @@ overProgram bytes = ltb 65536 (length bytes)
 -- 15: a reading's place is outside the picture
 unfoldable pub outside : ℕ → ℕ → ℕ → ℕ → Bool
 outside w h i j = not (ltb i w && ltb j h)
+
+-- 16: a level of the ladder outside 1 to 8
+unfoldable pub badLevel : ℕ → Bool
+badLevel level = eqb level 0 || ltb 8 level
 
 -- ---- the answer
 
@@ -189,6 +194,10 @@ fullSize r p = fullWidth r (p .width) * fullHeight r (p .height)
 unfoldable pub passChecks : Recipe → Picture → ℕ → ℕ → List Check
 passChecks r p out cells =
     pictureChecks r p ++ check (otherOutput out (fullSize r p)) 7 ∷ check (tooFewCells cells (fullSize r p)) 8 ∷ []
+
+-- the ladder: 16, then the numbers of pass by pass for the level's recipe
+unfoldable pub ladderChecks : Axes → ℕ → Picture → ℕ → ℕ → List Check
+ladderChecks a level p out cells = check (badLevel level) 16 ∷ passChecks (ladder a level) p out cells
 
 -- direct: 1 to 7, the two slices for R and C and the output
 unfoldable pub directChecks : Recipe → Picture → ℕ → ℕ → ℕ → List Check

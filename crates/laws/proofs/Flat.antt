@@ -13,12 +13,19 @@ use lib.ListN.{length, getD}
 use lib.Seq.{ext-getD}
 use Rattle.spec.specs.Recipe.{Recipe, kernel, order, gain}
 use Rattle.spec.specs.Picture.{Picture, pixel, exact, fullWidth, fullHeight, full}
 use Rattle.laws.proofs.Sums.{sum-agree}
 use Rattle.laws.proofs.Sequences.{behind, behind-within, behind-before}
 use Rattle.laws.proofs.Kernels.{at, Holds}
 use Rattle.laws.proofs.Cascades.{spread, cascaded, cascaded-agree, cascaded-conv, conv-short, kernel-short}
 use Rattle.laws.proofs.Exact.{pixel-right, line, rows-pos, exact-cascaded, exact-small, length-full, getD-full}
-use Rattle.passes.specs.Steps.{flat, filtered}
+
+-- a picture in rows of W places, one after the other: its pixels, and black to their right and below them
+unfoldable pub flat : Picture → ℕ → ℕ → ℕ
+flat p W k = pixel p (k % W) (k / W)
+
+-- a recipe's widths over a sequence in rows of W places: the row widths, and then the column widths
+unfoldable pub filtered : Recipe → ℕ → (ℕ → ℕ) → ℕ → ℕ
+filtered r W f = cascaded W (r .columns) (cascaded 1 (r .rows) f)
 
 -- column i of row j, in rows of W places
 module _ (W : ℕ) (i : ℕ) (h : i < W) where
