@@ -1,8 +1,10 @@
-//! Plain reference version of the bore wall picture filter of document 01.
+//! Plain reference version of the bore wall picture filter of document 01, with
+//! the fading ladder of document 02.
 //!
-//! Everything here follows the definitions of the paper word for word and
+//! Everything here follows the definitions of the papers word for word and
 //! takes no short cuts: coefficients by multiplying polynomials, every sum as
-//! the double sum over a and b. It serves to be compared against.
+//! the double sum over a and b, and on the ladder, level by level, as the plain
+//! sum of what a box covers. It serves to be compared against.
 //!
 //! A refusal is `Err` with the paper's number. Where the paper lends an output
 //! slice or work cells, a call here takes their lengths and returns the whole
@@ -13,6 +15,7 @@
 
 pub mod greys;
 pub mod job;
+pub mod ladder;
 pub mod picture;
 pub mod random;
 pub mod recipe;
@@ -26,6 +29,7 @@ pub use greys::{
 pub use job::{
     boresums, job_length, pixels_of, read_job, write_job, Job, PROGRAM_BYTES, PROGRAM_CELLS,
 };
+pub use ladder::{from_below, ladder, ladder_recipe, Axes, Grid, MOST_LEVEL};
 pub use picture::{
     check_picture, direct, exact_sums, grown_size, pass_by_pass, DirectOutput, LARGEST_GREY,
 };

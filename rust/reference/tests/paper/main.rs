@@ -1,8 +1,10 @@
-//! Tests of the reference version against document 01, one module for each
-//! subject, and the helpers that several of them use.
+//! Tests of the reference version against document 01 and, for the ladder,
+//! document 02, one module for each subject, and the helpers that several of
+//! them use.
 
 mod agreement;
 mod jobs;
+mod ladder;
 mod mistakes;
 mod one_pass;
 mod random_makers;

@@ -1,6 +1,6 @@
-//! Refusals 1 to 15 of every call, and their order: each call is tried with as
-//! many faults as possible at once, and the faults are mended from the one that
-//! has to be named first to the last.
+//! Refusals 1 to 15 of every call of document 01, and their order: each call is
+//! tried with as many faults as possible at once, and the faults are mended from
+//! the one that has to be named first to the last.
 
 use crate::{coefficients, columns, rows};
 use reference::{
