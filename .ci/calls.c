@@ -37,6 +37,14 @@ static unsigned methods(const bore_filter *a)
     return number + bore_drain(&state.filter, &state.words, sums, WIDTH + 255, cells, 4 * GROWN, &count);
 }
 
+/* The highest levels that are accepted: grown to 1,169 by 2 and to 1,068 by 46. */
+static unsigned ladder(void)
+{
+    const size_t size = WIDTH * HEIGHT;
+    return (unsigned)bore_ladder_rows(8, WIDTH, HEIGHT, pixels, size, sums, 1169 * 2, cells, 1169 * 2) +
+           bore_ladder_both(5, WIDTH, HEIGHT, pixels, size, sums, 1068 * 46, cells, 1068 * 46);
+}
+
 static unsigned greys(const bore_filter *a)
 {
     const size_t size = WIDTH * HEIGHT;
@@ -66,7 +74,7 @@ static void *all(void *number)
     static const uint8_t rows[] = {255, 2}, columns[] = {255};
     bore_filter a;
     *(unsigned *)number = bore_set_filter(&a, rows, 2, columns, 1);
-    *(unsigned *)number += filters(&a) + methods(&a) + greys(&a) + jobs(&a);
+    *(unsigned *)number += filters(&a) + methods(&a) + ladder() + greys(&a) + jobs(&a);
     return NULL;
 }
 

@@ -1,5 +1,5 @@
-/* What bore.h does by itself: cascades and filters filled from lists of widths. The status is the number of
- * checks that fail. .ci/c compiles and runs it. */
+/* What bore.h does by itself: cascades and filters filled from lists of widths, and the words of the numbers.
+ * The status is the number of checks that fail. .ci/c compiles and runs it. */
 #include "bore.h"
 
 #include <string.h>
@@ -60,6 +60,22 @@ static unsigned own_lists(const uint8_t *rows, const uint8_t *columns)
     return failed + (!has(&filter.rows, NULL, 0) || !has(&filter.columns, NULL, 0));
 }
 
+/* The numbers up to 16 have words of their own, all others the same. */
+static unsigned words(void)
+{
+    const char *none = "no number of this library";
+    unsigned failed = strcmp(bore_refusal_text(BORE_BAD_LEVEL), "the level is outside 1 to 8") != 0;
+    unsigned n, m;
+    for (n = 0; n <= 255; n++) {
+        const char *text = bore_refusal_text((uint8_t)n);
+        failed += (strcmp(text, none) != 0) != (n <= BORE_BAD_LEVEL);
+        for (m = 0; m < n && n <= BORE_BAD_LEVEL; m++) {
+            failed += strcmp(text, bore_refusal_text((uint8_t)m)) == 0;
+        }
+    }
+    return failed;
+}
+
 int main(void)
 {
     uint8_t rows[600], columns[600];
@@ -71,5 +87,6 @@ int main(void)
     }
     memset(&before, 0xAA, sizeof before);
     failed = short_lists(rows, columns, &before) + long_lists(rows, columns, &before) + own_lists(rows, columns);
+    failed += words();
     return failed > 100 ? 100 : (int)failed;
 }

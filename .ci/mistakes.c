@@ -37,9 +37,17 @@ int main(void)
     number |= bore_set_filter(&filter, NULL, 0, widths, 48);
 #elif MISTAKE == 13 /* three widths where 48 are read, for a list */
     number |= bore_set_cascade(&filter.rows, widths, 48);
+#elif MISTAKE == 14 /* one buffer as output and as cells of the ladder */
+    number |= bore_ladder_rows(1, 1, 1, pixel, 1, cells, 7, cells, 7);
+#elif MISTAKE == 15 /* a filter for a level */
+    number |= bore_ladder_rows(&filter, 1, 1, pixel, 1, out, 3, cells, 9);
+#elif MISTAKE == 16 /* an output shorter than its length, on both axes */
+    number |= bore_ladder_both(1, 1, 1, pixel, 1, out, 49, cells, 9);
 #endif
     number |= bore_kernel(&filter.rows, out, 3);
     number |= bore_passes(&filter, 1, 1, pixel, 1, out, 3, cells, 9);
     number |= bore_kernel(&filter.columns, NULL, 0);
+    number |= bore_ladder_rows(1, 1, 1, pixel, 1, out, 3, cells, 9);
+    number |= bore_ladder_both(1, 1, 1, NULL, 0, NULL, 0, NULL, 0);
     return number;
 }

@@ -1,6 +1,7 @@
 /* The filter library of a bore reader, for C99 and C++. Link with target/staticlib/libbore.a.
  *
- * Every call returns a number: 0 where it is accepted, else the refusal of document 01 (enum bore_refusal).
+ * Every call returns a number: 0 where it is accepted, else the refusal of document 01 or 02 (enum
+ * bore_refusal).
  * A call looks at its arguments in the order that its comment names, returns the first number that applies,
  * and then has written nothing. The exceptions are fields that stand beside the number: a refused bore_start
  * leaves a state of zeros, a refused bore_push or bore_drain a count of 0, a refused bore_read_job a job of
@@ -26,7 +27,7 @@
  * times the pixel at column i - a and row j - b, over all a and b. A pixel outside the picture is 0, so blurs
  * darken towards the rim. Pictures and sums stand row by row, columns and rows are counted from 0.
  *
- * Document 01 stands as definitions in crates/spec/specs. */
+ * Document 01, and of document 02 the fading ladder, stand as definitions in crates/spec/specs. */
 #ifndef BORE_H
 #define BORE_H
 
@@ -81,7 +82,8 @@ enum bore_refusal {
     BORE_PARITY_DIFFERS = 12,
     BORE_PRODUCT_TOO_LARGE = 13,
     BORE_BAD_JOB = 14,
-    BORE_OUTSIDE = 15
+    BORE_OUTSIDE = 15,
+    BORE_BAD_LEVEL = 16
 };
 
 /* What a number says, in words. */
@@ -104,6 +106,7 @@ static inline const char *bore_refusal_text(uint8_t number)
     case BORE_PRODUCT_TOO_LARGE: return "the product of the two weights is above 2^44";
     case BORE_BAD_JOB: return "the mark, the version or the length of the job is wrong";
     case BORE_OUTSIDE: return "the place is outside the picture";
+    case BORE_BAD_LEVEL: return "the level is outside 1 to 8";
     default: return "no number of this library";
     }
 }
@@ -293,6 +296,39 @@ BORE_CALL bore_passes(const bore_filter *block, size_t width, size_t height,
                       const uint8_t *pixels, size_t pixels_len,
                       uint64_t *BORE_RESTRICT out, size_t out_len,
                       uint64_t *BORE_RESTRICT cells, size_t cells_len);
+
+/* ---- The fading ladder ----
+ *
+ * Blurs that widen by about half an octave (document 02). Level 1 has the widths 2, 3, 4, and levels 2 to 8
+ * add 6, 8, 12, 16, 24, 32, 48 in turn, so that an axis with a level's widths grows by 6, 11, 18, 29, 44, 67,
+ * 98 or 145. The sums are those that bore_passes gives for a filter of these widths; each level is worked
+ * from the sums of the level below by its one new width. */
+
+/* Every exact sum of a level with its widths along the rows and none along the columns.
+ * Takes: a level, a picture, room for the sums, and work cells.
+ * Refuses: 16 unless the level is from 1 to 8; 5 unless both sides are from 1 to 1,024; 6 unless pixels_len is
+ * width times height; 7 unless out_len is the grown size; 8 where cells_len is below the grown size.
+ * Writes: all sums into out. The first cells, as many as the grown size, then hold anything; those beyond
+ * are left.
+ * Overlaps nothing: out, cells. */
+BORE_READS(4, 5) BORE_WRITES(6, 7) BORE_WRITES(8, 9)
+BORE_CALL bore_ladder_rows(size_t level, size_t width, size_t height,
+                           const uint8_t *pixels, size_t pixels_len,
+                           uint64_t *BORE_RESTRICT out, size_t out_len,
+                           uint64_t *BORE_RESTRICT cells, size_t cells_len);
+
+/* Every exact sum of a level with its widths along the rows and along the columns.
+ * Takes: a level, a picture, room for the sums, and work cells.
+ * Refuses: 16 unless the level is from 1 to 8; 4 for levels 6 to 8, which are too heavy; 5 unless both sides
+ * are from 1 to 1,024; 6 unless pixels_len is width times height; 7 unless out_len is the grown size; 8 where
+ * cells_len is below the grown size.
+ * Writes: as bore_ladder_rows does.
+ * Overlaps nothing: out, cells. */
+BORE_READS(4, 5) BORE_WRITES(6, 7) BORE_WRITES(8, 9)
+BORE_CALL bore_ladder_both(size_t level, size_t width, size_t height,
+                           const uint8_t *pixels, size_t pixels_len,
+                           uint64_t *BORE_RESTRICT out, size_t out_len,
+                           uint64_t *BORE_RESTRICT cells, size_t cells_len);
 
 /* ---- The stream ----
  *

@@ -164,6 +164,7 @@ pub fn refusal_text(number: u8) -> &'static str {
         13 => "the product of the two weights is above 2^44",
         14 => "the mark, the version or the length of the job is wrong",
         15 => "the place is outside the picture",
+        16 => "the level is outside 1 to 8",
         _ => "no number of this library",
     }
 }

@@ -130,6 +130,35 @@ unsafe extern "C" {
     ) -> u8;
 }
 
+// The crate ladder_c.
+unsafe extern "C" {
+    #[must_use = "a number other than 0 is a refusal"]
+    pub fn bore_ladder_rows(
+        level: usize,
+        width: usize,
+        height: usize,
+        pixels: *const u8,
+        pixels_len: usize,
+        out: *mut u64,
+        out_len: usize,
+        cells: *mut u64,
+        cells_len: usize,
+    ) -> u8;
+
+    #[must_use = "a number other than 0 is a refusal"]
+    pub fn bore_ladder_both(
+        level: usize,
+        width: usize,
+        height: usize,
+        pixels: *const u8,
+        pixels_len: usize,
+        out: *mut u64,
+        out_len: usize,
+        cells: *mut u64,
+        cells_len: usize,
+    ) -> u8;
+}
+
 // The crate gray_c.
 unsafe extern "C" {
     #[must_use = "a number other than 0 is a refusal"]

@@ -7,7 +7,7 @@ use std::path::Path;
 use std::process::{self, Command};
 
 /// The names of the numbers, from 0 on.
-const NAMES: [&str; 16] = [
+const NAMES: [&str; 17] = [
     "BORE_ACCEPTED",
     "BORE_LIST_TOO_LONG",
     "BORE_ZERO_WIDTH",
@@ -24,6 +24,7 @@ const NAMES: [&str; 16] = [
     "BORE_PRODUCT_TOO_LARGE",
     "BORE_BAD_JOB",
     "BORE_OUTSIDE",
+    "BORE_BAD_LEVEL",
 ];
 
 /// The fields of the structs, each with the declaration of a pointer to it.
@@ -109,7 +110,7 @@ fn the_numbers_have_these_names() {
 
 #[test]
 fn a_compiler_reads_the_same() {
-    let numbers = (0..16).map(|number| number.to_string());
+    let numbers = (0..17).map(|number| number.to_string());
     let words = (0..=255).map(|number| bore::refusal_text(number).to_string());
     let lines = numbers.chain(["48 1024".to_string()]).chain(words);
     let expected = lines.map(|line| line + "\n").collect::<String>();

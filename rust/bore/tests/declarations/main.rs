@@ -30,7 +30,7 @@ fn difference(source: &Functions, other: &Functions) -> Option<String> {
 #[test]
 fn the_declarations_are_those_of_the_source() {
     let source = source();
-    assert!(source.len() >= 20, "{} functions", source.len());
+    assert!(source.len() >= 22, "{} functions", source.len());
     assert_eq!(
         difference(&source, &header(&text(HEADER))),
         None,

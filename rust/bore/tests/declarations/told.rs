@@ -98,9 +98,9 @@ fn a_comment_stands_at_every_call() {
     }
 }
 
-/// The numbers by which each call refuses, in document 01's order. Both other
-/// readings refuse as that of the grey does.
-const ORDERS: [(&str, &[u8]); 18] = [
+/// The numbers by which each call refuses, in the order of documents 01 and 02.
+/// Both other readings refuse as that of the grey does.
+const ORDERS: [(&str, &[u8]); 20] = [
     ("bore_check", &[1, 2, 3, 4]),
     ("bore_kernel", &[1, 2, 3, 4, 7]),
     ("bore_full_size", &[1, 2, 3, 4, 5]),
@@ -109,6 +109,8 @@ const ORDERS: [(&str, &[u8]); 18] = [
     ("bore_equivalent", &[1, 2, 3, 4, 1, 2, 3, 4]),
     ("bore_direct", &[1, 2, 3, 4, 5, 6, 7]),
     ("bore_passes", &[1, 2, 3, 4, 5, 6, 7, 8]),
+    ("bore_ladder_rows", &[16, 5, 6, 7, 8]),
+    ("bore_ladder_both", &[16, 4, 5, 6, 7, 8]),
     ("bore_start", &[1, 2, 3, 4, 5, 8]),
     ("bore_push", &[9, 10, 6, 7, 8]),
     ("bore_drain", &[9, 10, 7, 8]),

@@ -21,6 +21,6 @@ fn words_of_readme() -> Vec<(u8, String)> {
 
 #[test]
 fn the_readme_has_the_words_of_the_numbers() {
-    let words = (0..=15).map(|number| (number, bore::refusal_text(number).to_string()));
+    let words = (0..=16).map(|number| (number, bore::refusal_text(number).to_string()));
     assert_eq!(words_of_readme(), words.collect::<Vec<_>>());
 }
