@@ -1,12 +1,12 @@
 //! Safe wrapper over the static library of the bore wall picture filter of
-//! document 01.
+//! document 01, with the fading ladder of document 02.
 //!
-//! Every call returns document 01's refusal number, 0 where it is accepted,
-//! and writes its values to what the caller lends; `refusal_text` gives the
-//! words of a number. A refused call writes nothing, but for the state of a
-//! refused start, the count of a refused push or drain and the job of a refused
-//! `read_job`, which become zeros. The calls stand in `raw`, each beside the
-//! declaration of the function that it calls.
+//! Every call returns the papers' refusal number, 0 where it is accepted, and
+//! writes its values to what the caller lends; `refusal_text` gives the words of
+//! a number. A refused call writes nothing, but for the state of a refused start,
+//! the count of a refused push or drain and the job of a refused `read_job`,
+//! which become zeros. The calls stand in `raw`, each beside the declaration of
+//! the function that it calls.
 
 #![deny(unsafe_code)]
 
@@ -15,9 +15,9 @@
 pub mod raw;
 
 pub use raw::{
-    blur, check, difference, direct, drain, equivalent, full_size, job_size, kernel, moments,
-    passes, push, read_job, round, sample_gray, sample_mean, sample_sum, start, stream_cells,
-    write_job,
+    blur, check, difference, direct, drain, equivalent, full_size, job_size, kernel, ladder_both,
+    ladder_rows, moments, passes, push, read_job, round, sample_gray, sample_mean, sample_sum,
+    start, stream_cells, write_job,
 };
 
 /// The widths of one axis (document 01: a row list or a column list). Only the
@@ -143,6 +143,38 @@ pub fn sample(
         };
     }
     number
+}
+
+/// The axes on which a level of the fading ladder has its widths (document 02:
+/// rows only or both axes).
+#[derive(Clone, Copy, Debug, PartialEq, Eq)]
+pub enum Axes {
+    /// The widths along the rows, and none along the columns.
+    Rows,
+    /// The widths along the rows, and the same along the columns.
+    Both,
+}
+
+/// The exact sums of a level of the fading ladder, worked level by level. Level
+/// 1 has the widths 2, 3, 4, and levels 2 to 8 add 6, 8, 12, 16, 24, 32, 48 in
+/// turn. The sums are those that `passes` gives for a filter of these widths, in
+/// an output of exactly its grown size and with at least as many work cells;
+/// refusals 16 for a level outside 1 to 8, then 4 for levels 6 to 8 on both
+/// axes, then 5 to 8.
+#[must_use = "a number other than 0 is a refusal"]
+pub fn ladder(
+    level: usize,
+    axes: Axes,
+    width: usize,
+    height: usize,
+    pixels: &[u8],
+    out: &mut [u64],
+    cells: &mut [u64],
+) -> u8 {
+    match axes {
+        Axes::Rows => ladder_rows(level, width, height, pixels, out, cells),
+        Axes::Both => ladder_both(level, width, height, pixels, out, cells),
+    }
 }
 
 /// The words of a refusal number; those of 0 are "accepted".

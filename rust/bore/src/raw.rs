@@ -375,6 +375,62 @@ pub fn passes(
     }
 }
 
+/// The exact sums of a level of the fading ladder along the rows; output, cells
+/// and refusals as for `ladder`.
+#[must_use = "a number other than 0 is a refusal"]
+pub fn ladder_rows(
+    level: usize,
+    width: usize,
+    height: usize,
+    pixels: &[u8],
+    out: &mut [u64],
+    cells: &mut [u64],
+) -> u8 {
+    // SAFETY: each pointer and the length after it are those of one slice; the
+    // two that are written are lent to this call alone.
+    unsafe {
+        bore_ladder_rows(
+            level,
+            width,
+            height,
+            pixels.as_ptr(),
+            pixels.len(),
+            out.as_mut_ptr(),
+            out.len(),
+            cells.as_mut_ptr(),
+            cells.len(),
+        )
+    }
+}
+
+/// The exact sums of a level of the fading ladder on both axes; output, cells and
+/// refusals as for `ladder`.
+#[must_use = "a number other than 0 is a refusal"]
+pub fn ladder_both(
+    level: usize,
+    width: usize,
+    height: usize,
+    pixels: &[u8],
+    out: &mut [u64],
+    cells: &mut [u64],
+) -> u8 {
+    // SAFETY: each pointer and the length after it are those of one slice; the
+    // two that are written are lent to this call alone.
+    unsafe {
+        bore_ladder_both(
+            level,
+            width,
+            height,
+            pixels.as_ptr(),
+            pixels.len(),
+            out.as_mut_ptr(),
+            out.len(),
+            cells.as_mut_ptr(),
+            cells.len(),
+        )
+    }
+}
+
 /// Starts the stream for a filter and a picture of these sides: sets the needed
 /// cells to zero. Whatever `state` holds, it becomes the started state, or after
 /// a refusal a state of zeros; refusals 1 to 5, then 8.

@@ -1,7 +1,7 @@
 //! What the wrapper does by itself: a list made of widths, the widths of a list,
-//! and the words of the refusal numbers.
+//! the ladder by its axes, and the words of the refusal numbers.
 
-use bore::{refusal_text, Cascade, Filter};
+use bore::{ladder, refusal_text, Axes, Cascade, Filter};
 
 /// Widths of which none is 0 and neighbours differ.
 fn widths(count: usize) -> Vec<u8> {
@@ -63,6 +63,24 @@ fn a_count_above_48_is_refused_by_1() {
             assert_eq!(bore::check(&Filter { rows, columns }), 1, "count {count}");
         }
         assert_eq!(bore::kernel(&list, &mut [0]), 1, "count {count}");
+    }
+}
+
+/// On one pixel, level 1 grows to 7 sums along the rows and to 7 by 7 on both
+/// axes, and level 6 is refused by 4 on both axes only.
+#[test]
+fn the_ladder_goes_by_its_axes() {
+    for (axes, level, size, number) in [
+        (Axes::Rows, 1, 7, 0),
+        (Axes::Rows, 1, 49, 7),
+        (Axes::Rows, 6, 68, 0),
+        (Axes::Both, 1, 49, 0),
+        (Axes::Both, 1, 7, 7),
+        (Axes::Both, 6, 68, 4),
+    ] {
+        let [mut out, mut cells] = [vec![0; size], vec![0; size]];
+        let found = ladder(level, axes, 1, 1, &[1], &mut out, &mut cells);
+        assert_eq!(found, number, "{axes:?}, level {level}, output of {size}");
     }
 }
 
