@@ -5,12 +5,12 @@
 //! `guarded` memory between guard pages, and the comparison of each call with the
 //! reference: in `agree` the calls on filters, in `agree_methods` direct and
 //! pass by pass, in `agree_stream` the one pass, whose work cells `cells`
-//! models, in `agree_greys` rounding, blur, difference and readings, in
-//! `agree_jobs` the calls on job files, which `job_parts` makes by parts and
-//! `any_jobs` at random. `accepted` has calls that have to be accepted for tests
-//! of their answers alone, `three` all three methods for tests of the sums
-//! alone, `values` gives all that a filter, a state or a job holds, and `program`
-//! runs the program on an input.
+//! models, in `agree_ladder` the ladder, in `agree_greys` rounding, blur,
+//! difference and readings, in `agree_jobs` the calls on job files, which
+//! `job_parts` makes by parts and `any_jobs` at random. `accepted` has calls that
+//! have to be accepted for tests of their answers alone, `three` all three
+//! methods for tests of the sums alone, `values` gives all that a filter, a state
+//! or a job holds, and `program` runs the program on an input.
 //!
 //! The environment sets the random cases: BORE_CASES is their number for each
 //! test, BORE_SEED the seed of the first; each case has the next seed. A test
@@ -23,6 +23,7 @@ pub mod accepted;
 pub mod agree;
 pub mod agree_greys;
 pub mod agree_jobs;
+pub mod agree_ladder;
 pub mod agree_methods;
 pub mod agree_stream;
 pub mod any_jobs;

@@ -35,7 +35,7 @@ fn direct(filter: &Filter, width: usize, height: usize, pixels: &[u8]) -> Sums {
     Ok(out)
 }
 
-fn passes(filter: &Filter, width: usize, height: usize, pixels: &[u8]) -> Sums {
+pub fn passes(filter: &Filter, width: usize, height: usize, pixels: &[u8]) -> Sums {
     let mut out = buffer(reference::grown_size(&recipe_of(filter), width, height));
     let mut cells = out.clone();
     let number = bore::passes(filter, width, height, pixels, &mut out, &mut cells);
