@@ -12,6 +12,7 @@ mod common;
 mod calls_filter;
 mod calls_greys;
 mod calls_jobs;
+mod calls_ladder;
 mod calls_stream;
 mod calls_sums;
 mod draw;
@@ -36,14 +37,14 @@ const SHARE: u64 = 10_000;
 const SHOWN: u64 = 500_000;
 
 /// Counted in place of 0 where two recipes are the same.
-const SAME: u8 = 16;
+const SAME: u8 = 17;
 
 /// A function of the library: its name, what calls it with random arguments and
-/// returns its number, and all numbers that it can return by document 01.
+/// returns its number, and all numbers that it can return by documents 01 and 02.
 struct Function(&'static str, fn(&mut Trial) -> u8, &'static [u8]);
 
 #[rustfmt::skip]
-const FUNCTIONS: [Function; 20] = [
+const FUNCTIONS: [Function; 22] = [
     Function("bore_check", calls_filter::check, &[0, 1, 2, 3, 4]),
     Function("bore_kernel", calls_filter::kernel, &[0, 1, 2, 3, 4, 7]),
     Function("bore_full_size", calls_filter::full_size, &[0, 1, 2, 3, 4, 5]),
@@ -52,6 +53,8 @@ const FUNCTIONS: [Function; 20] = [
     Function("bore_equivalent", calls_filter::equivalent, &[0, SAME, 1, 2, 3, 4]),
     Function("bore_direct", calls_sums::direct, &[0, 1, 2, 3, 4, 5, 6, 7]),
     Function("bore_passes", calls_sums::passes, &[0, 1, 2, 3, 4, 5, 6, 7, 8]),
+    Function("bore_ladder_rows", calls_ladder::ladder_rows, &[0, 5, 6, 7, 8, 16]),
+    Function("bore_ladder_both", calls_ladder::ladder_both, &[0, 4, 5, 6, 7, 8, 16]),
     Function("bore_start", calls_stream::start, &[0, 1, 2, 3, 4, 5, 8]),
     Function("bore_push", calls_stream::push, &[0, 6, 7, 8, 9, 10]),
     Function("bore_drain", calls_stream::drain, &[0, 7, 8, 9, 10]),
