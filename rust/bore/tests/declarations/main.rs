@@ -57,6 +57,7 @@ fn a_changed_declaration_is_seen() {
     for (old, new) in [
         ("size_t width, size_t height", "size_t height, size_t width"),
         ("size_t column, size_t row", "size_t row, size_t column"),
+        ("size_t level, size_t width", "size_t width, size_t level"),
         ("int16_t *BORE_RESTRICT out", "uint8_t *BORE_RESTRICT out"),
         ("uint64_t *BORE_RESTRICT out", "const uint64_t *out"),
         ("const bore_cascade *list", "const bore_filter *list"),
@@ -75,6 +76,10 @@ fn a_changed_declaration_is_seen() {
         (
             "width: usize,\n        height: usize",
             "height: usize,\n        width: usize",
+        ),
+        (
+            "level: usize,\n        width: usize",
+            "width: usize,\n        level: usize",
         ),
         ("out: *mut i16", "out: *mut u8"),
         ("sums: *const u64", "sums: *mut u64"),
