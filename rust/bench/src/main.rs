@@ -15,6 +15,7 @@ mod gray_work;
 mod greys;
 mod job_tables;
 mod jobs;
+mod ladder;
 mod passes;
 mod programs;
 
@@ -130,6 +131,43 @@ fn widths() {
     }
 }
 
+/// The rows of the ladder's table: name, level, and whether it is on both axes.
+const LEVELS: [(&str, usize, bool); 2] = [
+    ("level 5 on both axes", 5, true),
+    ("level 8 along rows", 8, false),
+];
+
+/// The ladder of the library beside its pass by pass on the level's recipe, and
+/// beside the same climb in Rust.
+fn climbing() {
+    println!("The ladder, level by level, beside the library's pass by pass on the level's recipe");
+    println!("and the same climb in Rust.");
+    println!();
+    println!(
+        "| Ladder | Library, ms | Pass by pass, ms | Rust, ms | Library / pass by pass \
+         | Library / Rust |"
+    );
+    println!("|---|---|---|---|---|---|");
+    for (name, level, both) in LEVELS {
+        let list = &ladder::WIDTHS[..level + 2];
+        let columns = if both { list } else { &[] };
+        let mut library = Work::new(list, columns, SIDE);
+        let (mut passes, mut rust) = (library.clone(), library.clone());
+        library.ladder(level);
+        passes.passes();
+        ladder::run(level, &mut rust);
+        assert!(library.out == passes.out, "{name}, pass by pass");
+        assert!(library.out == rust.out, "{name}, Rust");
+        let [a, b, c] = alternate([
+            &mut || library.ladder(level),
+            &mut || passes.passes(),
+            &mut || ladder::run(level, &mut rust),
+        ]);
+        let (to_passes, to_rust) = (a / b, a / c);
+        println!("| {name} | {a:.2} | {b:.2} | {c:.2} | {to_passes:.2} | {to_rust:.2} |");
+    }
+}
+
 /// The widths above 1 that the comparing call gets each way; ones make them 48.
 const COMPARED: [u8; 15] = [2, 2, 2, 2, 2, 2, 2, 2, 3, 3, 3, 3, 4, 4, 5];
 
@@ -195,6 +233,8 @@ fn main() {
     conventional();
     println!();
     widths();
+    println!();
+    climbing();
     println!();
     comparing();
     println!();

@@ -4,7 +4,7 @@
 use crate::work::Work;
 
 /// y(k) = y(k - 1) + v(k) - v(k - n).
-fn row_pass(n: usize, v: &[u64], y: &mut [u64]) {
+pub fn row_pass(n: usize, v: &[u64], y: &mut [u64]) {
     let (first, others) = y.split_at_mut(n);
     let mut total: u64 = 0;
     for (y, &v) in first.iter_mut().zip(v) {
@@ -18,7 +18,7 @@ fn row_pass(n: usize, v: &[u64], y: &mut [u64]) {
 }
 
 /// y(k) = y(k - W) + v(k) - v(k - n W), row by row for rows of W places.
-fn column_pass(n: usize, full_width: usize, v: &[u64], y: &mut [u64]) {
+pub fn column_pass(n: usize, full_width: usize, v: &[u64], y: &mut [u64]) {
     let rows = v.chunks_exact(full_width);
     let leaving = v.chunks_exact(full_width);
     let (first, _) = y.split_at_mut(full_width);
@@ -40,7 +40,7 @@ fn column_pass(n: usize, full_width: usize, v: &[u64], y: &mut [u64]) {
 }
 
 /// The picture, with zeros to the right of it and below.
-fn spread(pixels: &[u8], width: usize, full_width: usize, grown: &mut [u64]) {
+pub fn spread(pixels: &[u8], width: usize, full_width: usize, grown: &mut [u64]) {
     let mut rows = pixels.chunks_exact(width);
     for out in grown.chunks_exact_mut(full_width) {
         let (left, right) = out.split_at_mut(width);

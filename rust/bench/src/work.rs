@@ -1,7 +1,7 @@
 //! A recipe, a picture and the buffers of all methods, and the library's three
-//! methods on them.
+//! methods on them, and its ladder.
 
-use bore::{Cascade, Filter, State};
+use bore::{Axes, Cascade, Filter, State};
 
 /// A recipe and a square picture with buffers of the right lengths.
 #[derive(Clone)]
@@ -109,6 +109,25 @@ impl Work {
             &mut self.cells,
         );
         assert_eq!(number, 0, "pass by pass is accepted");
+    }
+
+    /// The level of the ladder that the recipe is, on both axes where there are
+    /// columns.
+    pub fn ladder(&mut self, level: usize) {
+        let axes = match self.columns.is_empty() {
+            true => Axes::Rows,
+            false => Axes::Both,
+        };
+        let number = bore::ladder(
+            level,
+            axes,
+            self.width,
+            self.height,
+            &self.pixels,
+            &mut self.out,
+            &mut self.cells,
+        );
+        assert_eq!(number, 0, "the ladder is accepted");
     }
 
     pub fn stream(&mut self) {
