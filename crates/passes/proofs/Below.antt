@@ -16,7 +16,7 @@ use Rattle.spec.specs.Refusals.{first, check, badLevel, tooLong, zeroWidth, too
 use Rattle.laws.proofs.Refusals.{Accepted, first-front, none-both, size-numbered, accepted-none, is-accepted-picture, picture-other, lent-accepted}
 use Rattle.laws.proofs.Joining.{joined-accepted}
 use Rattle.laws.proofs.Ladder.{next-level, from-below}
-use Rattle.passes.specs.Climbed.{levelChecks, FromBelow, Call, CallsFromBelow, TooHeavy}
+use Rattle.passes.specs.Climbed.{levelChecks, FromBelow, LevelCall, CallsFromBelow, TooHeavy}
 use Rattle.passes.proofs.Answering.{after-level, asked-all}
 
 pub sums-from-below : FromBelow
@@ -28,7 +28,7 @@ unfolding badLevel
 level-good level z h = rw (ne-eqb level 0 (λ e. omega arith), le-ltb 8 level h) refl
 
 -- a call for a level that accepts the picture is accepted, and leaves its sums
-module _ (a : Axes) (level : ℕ) (p : Picture) (z : 0 < level) (h : level ≤ 8) (shown : first (pictureChecks (ladder a level) p) ≡ 0) (call : Call a level p) where
+module _ (a : Axes) (level : ℕ) (p : Picture) (z : 0 < level) (h : level ≤ 8) (shown : first (pictureChecks (ladder a level) p) ≡ 0) (call : LevelCall a level p) where
   asked : first (levelChecks a level p (call .out) (call .cells)) ≡ 0
   unfolding pictureChecks
   asked =

@@ -29,7 +29,7 @@ FromBelow = (a : Axes) (level : ℕ) (p : Picture) → 0 < level → level < 8
     → full (ladder a (suc level)) p ≡ full (rung a (suc level)) (grown (ladder a level) (p .width) (p .height) (full (ladder a level) p))
 
 -- a call for a level that is lent an output of its grown size and cells enough, with whatever it then answers and leaves
-pub record Call (a : Axes) (level : ℕ) (p : Picture) : Type 0 where
+pub record LevelCall (a : Axes) (level : ℕ) (p : Picture) : Type 0 where
   pub out : List ℕ
   pub cells : List ℕ
   pub exactly : length out ≡ fullSize (ladder a level) p
@@ -40,10 +40,11 @@ pub record Call (a : Axes) (level : ℕ) (p : Picture) : Type 0 where
   pub contract : Climbed a level p out cells number newOut newCells
 
 -- The claim about calls: where a level from 2 on accepts the picture, the call for it and that for the level below are accepted, and what the
--- one leaves is its one new width, worked on what the other left.
+-- one leaves is its one new width, worked on what the other left. It is not empty: the call answers to every argument, and
+-- spec/proofs/Examples.antt, `levels-accepted`, has a picture that levels 1 to 8 along the rows and 1 to 5 on both axes accept.
 abbrev pub CallsFromBelow : Type 0
 CallsFromBelow = (a : Axes) (level : ℕ) (p : Picture) → 0 < level → level < 8 → first (pictureChecks (ladder a (suc level)) p) ≡ 0
-    → (below : Call a level p) (above : Call a (suc level) p)
+    → (below : LevelCall a level p) (above : LevelCall a (suc level) p)
     → (below .number ≡ 0) × (above .number ≡ 0)
     × (above .newOut ≡ full (rung a (suc level)) (grown (ladder a level) (p .width) (p .height) (below .newOut)))
 

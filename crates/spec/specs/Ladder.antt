@@ -1,4 +1,4 @@
--- Document 02, "The fading ladder": recipes that widen level by level.
+-- Document 02, S-1 "The fading ladder": recipes that widen level by level.
 use mathlib.Core.List.{List, [], _∷_}
 use Prim.Native.Nat.{ℕ, _+_}
 use lib.ListN.{getD, take}

@@ -1,4 +1,5 @@
--- Document 01, "If the reader says no": each condition by its number, and the order in which each call asks them.
+-- Document 01, "If the reader says no", and the numbers of document 02: each condition by its number, and the order in which each call
+-- asks them.
 use mathlib.Core.Path.{_≡_}
 use mathlib.Core.Bool.{Bool, not, _&&_, _||_, cond}
 use mathlib.Core.List.{List, [], _∷_, _++_}

@@ -2,18 +2,14 @@
 -- Assumes nothing.
 use mathlib.Core.Path.{_≡_, sym, ap, _∙_}
 use mathlib.Core.Bool.{true}
-use Prim.Native.Nat.{_*_, _≤_}
-use native.Mathlib.Nat.{le-trans, le-of-eq, mul-comm, mul-le-mul-left, mul-le-mul-right}
 use native.Mathlib.Omega.{arith}
 use borrow.Author.Needs.{needs}
 use lib.ListN.{length}
 use Rattle.spec.specs.Recipe.{recipe}
-use Rattle.spec.specs.Picture.{largestGray, Picture, fullWidth, fullHeight}
-use Rattle.spec.specs.Refusals.{fullSize}
+use Rattle.spec.specs.Picture.{largestGray, picture}
 use Rattle.laws.proofs.Kernels.{at}
-use Rattle.laws.proofs.Refusals.{grown-most}
 use Rattle.passes.specs.Steps.{present}
-use Rattle.passes.proofs.Whole.{picture-small, picture-done}
+use Rattle.passes.proofs.Whole.{picture-room, row-short, picture-small, picture-done}
 use Rattle.passes.proofs.run.Statement.{statement}
 use Rattle.passes.proofs.run.Tie as tie
 
@@ -21,42 +17,32 @@ begins-in-out-requires : tie.Need-begins-in-out-requires
 begins-in-out-requires c κs = search needs
 
 place-requires : tie.Need-place-requires
-unfolding fullWidth fullHeight fullSize
 place-requires c κs =
     let start = c .before .before .before .before .before .before in
-    let args = start .args in
-    let r = recipe (args .filter) in
-    let W = fullWidth r (args .width) in
-    let H = fullHeight r (args .height) in
-    let tall : args .height * W ≤ H * W = mul-le-mul-right W (omega arith) in (
-      start .pre .0 .size,
-      omega (arith, start .pre .1, start .pre .0 .sides .width .0),
-      omega (arith, start .pre .1),
-      le-trans (le-of-eq (ap (λ w. args .height * w) (start .pre .1))) (omega (arith, mul-comm W H, start .pre .2)),
-      start .pre .3,
-    )
+    let room = picture-room _ _ (start .pre .0) (start .args .full-width) (length (start .args .out .now)) (start .pre .1) (start .pre .2) in
+    (start .pre .0 .size, room .0, room .1, room .2, start .pre .3)
 
 carry-requires : tie.Need-carry-requires
-unfolding fullWidth
 carry-requires c κs =
     let known = c .before .before .before .before .before .before .before .before .before .before .before .before in
     let start = c .before .before .before .before .before .before .before .before .before .before .before .before .before in
     let place = c .before .before .before .before .before .before .place in
     let args = start .args in
     let r = recipe (args .filter) in
-    let p : Picture = record { width = args .width; height = args .height; pixels = args .pixels .now } in
+    let p = picture (args .width) (args .height) (args .pixels .now) in
     let W = args .full-width in
+    let size = length (args .out .now) in
     let a = start .pre .0 in
+    let wide = start .pre .1 in
+    let all = start .pre .2 in
     let now = present (c .before .before .before .before .before .before .before .before .before .begins-in-out .result) (place .last .1 .1 .1 .1 .1 .0) (place .last .1 .1 .1 .1 .1 .1 .0) in
-    let long = place .kept .1 .1 .1 .1 .1 .0 in
-    let most : W ≤ 1279 = omega (arith, start .pre .1, grown-most r (args .width) (args .height) (a .recipe) (a .sides)) in
-    let wide : 255 * W ≤ 255 * 1279 = mul-le-mul-left 255 most in (
+    let long = place .kept .1 .1 .1 .1 .1 .0 in (
       a .recipe,
       place .kept .1 .1 .1 .1 .1 .1 .0 ∙ start .pre .3 ∙ sym long,
-      omega (arith, start .pre .1, a .sides .width .0),
-      omega arith,
-      λ k h. picture-small r p W (length (args .out .now)) a (le-of-eq (sym (start .pre .1))) now (place .ensures) largestGray (omega arith)
-          (λ i. omega (arith, known .shared-slice-known .given i)) k (omega (arith, long)),
+      picture-room r p a W size wide all .0,
+      row-short r p a W size wide all,
+      λ k h. picture-small r p a W size wide all now (place .ensures) largestGray (omega arith) (λ i. omega (arith, known .shared-slice-known .given i)) k
+          (omega (arith, long)),
     )
 
 same-length : tie.Need-same-length
@@ -66,23 +52,19 @@ same-length-2 : tie.Need-same-length-2
 same-length-2 c = search needs
 
 returns : tie.Need-returns
-unfolding fullWidth fullSize
 returns c =
     let start = c .before .before .before .before .before .before .before .before .before .before .before .before .before .before .before .before .before .before in
     let begins = c .before .before .before .before .before .before .before .before .before .before .before .before .before .before .begins-in-out in
     let place = c .before .before .before .before .before .before .before .before .before .before .before .place in
     let carry = c .before .before .before .before .carry in
     let args = start .args in
-    let r = recipe (args .filter) in
-    let p : Picture = record { width = args .width; height = args .height; pixels = args .pixels .now } in
-    let W = args .full-width in
     let now = present (begins .result) (place .last .1 .1 .1 .1 .1 .0) (place .last .1 .1 .1 .1 .1 .1 .0) in
     let long = place .kept .1 .1 .1 .1 .1 .0 in
     let ends : carry .result ≡ true = carry .ensures .0 ∙ begins .ensures in
-    picture-done r p W (length (args .out .now)) (start .pre .0) (le-of-eq (sym (start .pre .1))) now (place .ensures) _
+    picture-done _ _ (start .pre .0) (args .full-width) (length (args .out .now)) (start .pre .1) (start .pre .2) now (place .ensures) _
     (λ k h.
     ap (λ b. at (present b (carry .last .1 .1 .1 .0) (carry .last .1 .1 .1 .1 .0)) k) (sym ends) ∙ carry .ensures .1 k (omega (arith, long)))
-    (carry .kept .1 .1 .1 .0 ∙ long) (start .pre .1) (start .pre .2 ∙ ap (λ w. w * fullHeight r (args .height)) (sym (start .pre .1)))
+    (carry .kept .1 .1 .1 .0 ∙ long)
 
 pub run-spec : {M : Type 1} → statement M
 run-spec =
