@@ -2,11 +2,11 @@
  *
  * Every call returns a number: 0 where it is accepted, else the refusal of document 01 or 02 (enum
  * bore_refusal). A call looks at its arguments in the order that its comment names, returns the first number
- * that applies, and then has written nothing. The exceptions are fields that stand beside the number: a refused bore_start
- * leaves a state of zeros, a refused bore_push or bore_drain a count of 0, a refused bore_read_job a job of
- * zeros. No call keeps a pointer, allocates memory or waits, so calls on different memory may run at the same
- * time. A call needs less than 64 KiB of stack. bore_moments and bore_sample_mean divide floats, in the
- * default floating-point environment.
+ * that applies, and then has written nothing. The exceptions are fields that stand beside the number: a
+ * refused bore_start leaves a state of zeros, a refused bore_push or bore_drain a count of 0, a refused
+ * bore_read_job a job of zeros. No call keeps a pointer, allocates memory or waits, so calls on different
+ * memory may run at the same time. A call needs less than 64 KiB of stack. bore_moments and
+ * bore_sample_mean divide floats, in the default floating-point environment.
  *
  * A slice is a pointer and, behind it, the number of its elements: `pixels` and `pixels_len`. A null pointer
  * is allowed with length 0 and only there. Every other pointer is to a whole object and is never null.

@@ -22,7 +22,7 @@ use Rattle.laws.proofs.Flat.{flat, filtered, filtered-exact}
 
 -- ---- cascades one after the other
 
-pub cascaded-append : (s : ℕ) (ns ms : List ℕ) (f : ℕ → ℕ) (k : ℕ) → cascaded s (ns ++ ms) f k ≡ cascaded s ms (cascaded s ns f) k
+cascaded-append : (s : ℕ) (ns ms : List ℕ) (f : ℕ → ℕ) (k : ℕ) → cascaded s (ns ++ ms) f k ≡ cascaded s ms (cascaded s ns f) k
 unfolding cascaded
 cascaded-append s [] ms f k = refl
 cascaded-append s (n ∷ ns) ms f k = cascaded-append s ns ms (spread s n f) k
@@ -35,7 +35,7 @@ spread-through s t n (m ∷ ms) f k =
     cascaded-agree s ms (spread s m (spread t n f)) (spread t n (spread s m f)) k (λ j l. spread-comm s t m n f j)
     ∙ spread-through s t n ms (spread s m f) k
 
-pub cascaded-comm : (s t : ℕ) (ns ms : List ℕ) (f : ℕ → ℕ) (k : ℕ) → cascaded s ns (cascaded t ms f) k ≡ cascaded t ms (cascaded s ns f) k
+cascaded-comm : (s t : ℕ) (ns ms : List ℕ) (f : ℕ → ℕ) (k : ℕ) → cascaded s ns (cascaded t ms f) k ≡ cascaded t ms (cascaded s ns f) k
 unfolding cascaded
 cascaded-comm s t [] ms f k = refl
 cascaded-comm s t (n ∷ ns) ms f k =
@@ -79,11 +79,11 @@ module _ (r : Recipe) (p : Picture) where
       go true x e = e
       go false x e = refl
 
-  pub exact-right : (i j : ℕ) → fullWidth r (p .width) ≤ i → exact r p i j ≡ 0
+  exact-right : (i j : ℕ) → fullWidth r (p .width) ≤ i → exact r p i j ≡ 0
   unfolding fullWidth
   exact-right i j h = nothing i j (λ a b l k. pixel-right p (i - a) (j - b) (omega arith))
 
-  pub exact-below : (i j : ℕ) → fullHeight r (p .height) ≤ j → exact r p i j ≡ 0
+  exact-below : (i j : ℕ) → fullHeight r (p .height) ≤ j → exact r p i j ≡ 0
   unfolding fullHeight
   exact-below i j h = nothing i j (λ a b l k. pixel-below p (i - a) (j - b) (omega arith))
 
@@ -91,7 +91,7 @@ module _ (r : Recipe) (p : Picture) where
   abbrev pub sums : Picture
   sums = grown r (p .width) (p .height) (full r p)
 
-  pub sums-pixel : (i j : ℕ) → pixel sums i j ≡ exact r p i j
+  sums-pixel : (i j : ℕ) → pixel sums i j ≡ exact r p i j
   unfolding grown at
   sums-pixel i j =
       elim (decLt i (fullWidth r (p .width))) [
@@ -172,7 +172,7 @@ module _ (a b : Recipe) where
 
   -- recipe B on the exact sums of recipe A
   module _ (p : Picture) (g : 0 < gain (joined a b)) where
-    pub exact-joined : (i j : ℕ) → i < fullWidth (joined a b) (p .width) → exact b (sums a p) i j ≡ exact (joined a b) p i j
+    exact-joined : (i j : ℕ) → i < fullWidth (joined a b) (p .width) → exact b (sums a p) i j ≡ exact (joined a b) p i j
     unfolding fullWidth grown
     exact-joined i j h =
         let W = fullWidth (joined a b) (p .width) in

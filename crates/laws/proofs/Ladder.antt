@@ -9,11 +9,10 @@ use lib.ListN.{take, drop, getD, take-append-drop}
 use lib.Seq.{take-suc}
 use Rattle.spec.specs.Words.{product}
 use Rattle.spec.specs.Recipe.{Recipe, weight, gain, joined}
-use Rattle.spec.specs.Picture.{Picture, full, grown}
 use Rattle.spec.specs.Ladder.{rungs, Axes, rowsOnly, bothAxes, onAxes, ladder, rung}
 use Rattle.laws.proofs.Lists.{product-append, factor-pos}
 use Rattle.laws.proofs.Refusals.{Accepted}
-use Rattle.laws.proofs.Joining.{joined-accepted, full-joined}
+use Rattle.laws.proofs.Joining.{joined-accepted}
 
 -- the width at a place, from 0 on, and the widths before it
 abbrev pub rungAt : Axes → ℕ → Recipe
@@ -35,7 +34,7 @@ next-rung a i h = go a
     go bothAxes = ap (onAxes bothAxes) e
 
 -- no width is 0
-pub before-pos : (a : Axes) (i : ℕ) → 0 < gain (rungsBefore a i)
+before-pos : (a : Axes) (i : ℕ) → 0 < gain (rungsBefore a i)
 unfolding rungs product weight gain onAxes
 before-pos a i = go a
   where
@@ -73,11 +72,3 @@ next-level a level h =
 pub level-pos : (a : Axes) (level : ℕ) → 0 < gain (ladder a level)
 unfolding ladder
 level-pos a level = before-pos a (level + 2)
-
--- the sums of a level are those of its one new width, worked on the sums of the level below as a picture
-pub from-below : (a : Axes) (level : ℕ) (p : Picture) → level < 8
-    → full (ladder a (suc level)) p ≡ full (rung a (suc level)) (grown (ladder a level) (p .width) (p .height) (full (ladder a level) p))
-from-below a level p h =
-    let e = next-level a level h in
-    ap (λ r. full r p) e
-    ∙ sym (full-joined (ladder a level) (rung a (suc level)) p (le-trans (level-pos a (suc level)) (le-of-eq (ap gain e))))

@@ -72,6 +72,6 @@ pub after-level : (a : Axes) (level : ℕ) (p : Picture) (out cells : ℕ) → b
 unfolding ladderChecks check first
 after-level a level p out cells e = rw e refl
 
-pub good-level : (level : ℕ) → badLevel level ≡ false → level ≤ 8
+pub level-most : (level : ℕ) → badLevel level ≡ false → level ≤ 8
 unfolding badLevel
-good-level level e = ltb-false 8 level (neither (eqb level 0) (ltb 8 level) e .1)
+level-most level e = ltb-false 8 level (neither (eqb level 0) (ltb 8 level) e .1)

@@ -4,6 +4,7 @@
 use mathlib.Core.Path.{_≡_, refl, sym, ap, subst, _∙_}
 use mathlib.Core.Bool.{false}
 use Prim.Native.Nat.{ℕ, suc, _≤_, _<_}
+use native.Mathlib.Nat.{le-trans, le-of-eq}
 use native.Mathlib.Decide.{decLe}
 use native.Mathlib.Omega.{arith}
 use lib.ListN.{length}
@@ -14,18 +15,21 @@ use Rattle.spec.specs.Picture.{Picture, full, grown}
 use Rattle.spec.specs.Ladder.{rungs, Axes, bothAxes, onAxes, ladder, rung}
 use Rattle.spec.specs.Refusals.{first, check, badLevel, tooLong, zeroWidth, tooFar, tooHeavy, recipeChecks, sizeChecks, pictureChecks, passChecks}
 use Rattle.laws.proofs.Refusals.{Accepted, first-front, none-both, size-numbered, accepted-none, is-accepted-picture, picture-other, lent-accepted}
-use Rattle.laws.proofs.Joining.{joined-accepted}
-use Rattle.laws.proofs.Ladder.{next-level, from-below}
+use Rattle.laws.proofs.Joining.{joined-accepted, full-joined}
+use Rattle.laws.proofs.Ladder.{next-level, level-pos}
 use Rattle.passes.specs.Climbed.{levelChecks, FromBelow, LevelCall, CallsFromBelow, TooHeavy}
 use Rattle.passes.proofs.Answering.{after-level, asked-all}
 
 pub sums-from-below : FromBelow
-sums-from-below a level p z h = from-below a level p h
+sums-from-below a level p z h =
+    let e = next-level a level h in
+    ap (λ r. full r p) e
+    ∙ sym (full-joined (ladder a level) (rung a (suc level)) p (le-trans (level-pos a (suc level)) (le-of-eq (ap gain e))))
 
 -- a level of 1 to 8
-level-good : (level : ℕ) → 0 < level → level ≤ 8 → badLevel level ≡ false
+level-not-bad : (level : ℕ) → 0 < level → level ≤ 8 → badLevel level ≡ false
 unfolding badLevel
-level-good level z h = rw (ne-eqb level 0 (λ e. omega arith), le-ltb 8 level h) refl
+level-not-bad level z h = rw (ne-eqb level 0 (λ e. omega arith), le-ltb 8 level h) refl
 
 -- a call for a level that accepts the picture is accepted, and leaves its sums
 module _ (a : Axes) (level : ℕ) (p : Picture) (z : 0 < level) (h : level ≤ 8) (shown : first (pictureChecks (ladder a level) p) ≡ 0) (call : LevelCall a level p) where
@@ -33,7 +37,7 @@ module _ (a : Axes) (level : ℕ) (p : Picture) (z : 0 < level) (h : level ≤ 8
   unfolding pictureChecks
   asked =
       let r = ladder a level in
-      after-level a level p (length (call .out)) (length (call .cells)) (level-good level z h)
+      after-level a level p (length (call .out)) (length (call .cells)) (level-not-bad level z h)
       ∙ asked-all r p (length (call .out)) (length (call .cells))
       (none-both (sizeChecks r (p .width) (p .height)) _ (size-numbered r (p .width) (p .height)) shown .0) (is-accepted-picture r p shown .size)
       (call .exactly) (call .enough)
@@ -52,7 +56,7 @@ calls-from-below a level p z h shown below above =
       call-accepted a level p z (omega arith) lower below,
       call-accepted a (suc level) p (omega arith) h shown above,
       call-leaves a (suc level) p (omega arith) h shown above
-          ∙ from-below a level p h
+          ∙ sums-from-below a level p z h
           ∙ ap (λ sums. full (rung a (suc level)) (grown (ladder a level) (p .width) (p .height) sums)) (sym (call-leaves a level p z (omega arith) lower below)),
     )
 
@@ -78,6 +82,6 @@ too-heavy level p out cells number newOut newCells g h call =
     let four = heavy level g h in
     let other : _≡_ {A = ℕ} 4 0 → ⊥ = λ e. omega arith in
     call .answer
-    ∙ after-level bothAxes level p (length out) (length cells) (level-good level (omega arith) h)
+    ∙ after-level bothAxes level p (length out) (length cells) (level-not-bad level (omega arith) h)
     ∙ first-front (pictureChecks r p) _ 4
     (first-front (sizeChecks r (p .width) (p .height)) _ 4 (first-front (recipeChecks r) _ 4 four other) other) other

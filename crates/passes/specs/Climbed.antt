@@ -48,7 +48,8 @@ CallsFromBelow = (a : Axes) (level : ℕ) (p : Picture) → 0 < level → level 
     → (below .number ≡ 0) × (above .number ≡ 0)
     × (above .newOut ≡ full (rung a (suc level)) (grown (ladder a level) (p .width) (p .height) (below .newOut)))
 
--- On both axes levels 6 to 8 are too heavy: whatever is lent, the answer is 4.
+-- On both axes levels 6 to 8 are too heavy: whatever is lent, the answer is 4. It is not empty either, since the call answers to every
+-- argument.
 abbrev pub TooHeavy : Type 0
 TooHeavy = (level : ℕ) (p : Picture) (out cells : List ℕ) (number : ℕ) (newOut newCells : List ℕ) → 6 ≤ level → level ≤ 8
     → Climbed bothAxes level p out cells number newOut newCells → number ≡ 4

@@ -32,7 +32,7 @@ pub enum Axes {
 // The widths of the ladder: level 1 is the first three, and levels 2 to 8 add the others in turn.
 const RUNGS: [u8; 10] = [2, 3, 4, 6, 8, 12, 16, 24, 32, 48];
 
-// So many of them, from one on.
+// So many of them, from a given place on.
 fn rungs(from: usize, count: usize) -> Cascade
     requires { ⌜ from + count ≤ 10 ⌝ }
     ensures { λ r. ⌜ widths r ≡ part from count rungsOf ⌝ }
@@ -74,17 +74,17 @@ fn level_filter(axes: Axes, level: usize) -> Filter
     on_axes(axes, rungs(0, level + 2))
 }
 
-// One of its widths.
-fn rung(axes: Axes, i: usize) -> Filter
+// The width at a place, on these axes.
+fn rung_at(axes: Axes, i: usize) -> Filter
     requires { ⌜ i < 10 ⌝ }
     ensures { λ r. ⌜ recipe r ≡ rungAt (axesOf axes) i ⌝ }
 {
     on_axes(axes, rungs(i, 1))
 }
 
-// The levels up to the one that is named, on what stands in the two buffers in rows of full_width
+// The levels up to the one that is named, on what stands in one of the buffers in rows of full_width
 // places: the first three widths make level 1, and each further one makes the next level from the sums
-// of the level below, which the buffers then hold. Returns whether that is `out`.
+// of the level below, which one of the buffers holds. Returns whether `out` holds the last.
 fn levels(
     level: usize,
     axes: Axes,
@@ -102,7 +102,7 @@ fn levels(
 {
     let mut held = in_out;
     for i in 0..level + 2 {
-        held = carry(rung(axes, i), full_width, held, out, work);
+        held = carry(rung_at(axes, i), full_width, held, out, work);
     }
     held
 }

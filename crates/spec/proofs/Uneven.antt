@@ -12,6 +12,7 @@ use Rattle.spec.specs.Words.{sum, tab, part, total, product, somewhere}
 use Rattle.spec.specs.Recipe.{Recipe, box, convolve, kernel, boxOrder, order, weight, gain}
 use Rattle.spec.specs.Picture.{Picture, picture, pixel, pixelBack, fullWidth, fullHeight, fullSides, exact, fullRow, full}
 use Rattle.spec.specs.Stream.{State, stateWith, boxCells, cascadeCells, streamCells}
+use Rattle.spec.specs.Ladder.{rungs, rowsOnly, bothAxes, onAxes, ladder}
 use Rattle.spec.specs.Gray
 use Rattle.spec.specs.Gray.{asGray, asSum, asQuotient, grayReading, sumReading, quotientReading}
 use Rattle.spec.specs.Cases.{recipeOf, twos}
@@ -156,10 +157,19 @@ pub answers :
     ∷ Refusals.first (Refusals.rowChecks (stateOf (recipeOf (twos 45) []) 3 2) 3 48 99)
     ∷ Refusals.first (Refusals.rowChecks (stateOf uneven 1025 2) 1025 1028 9999)
     ∷ Refusals.first (Refusals.rowChecks (stateOf uneven 3 1025) 3 6 10)
-    -- pass by pass, direct
+    -- pass by pass
     ∷ Refusals.first (Refusals.passChecks uneven wall 18 18)
     ∷ Refusals.first (Refusals.passChecks uneven wall 17 18)
     ∷ Refusals.first (Refusals.passChecks uneven wall 18 17)
+    -- the ladder: level 1 is 9 by 8 on both axes, and 9 by 2 along the rows
+    ∷ Refusals.first (Refusals.ladderChecks bothAxes 1 wall 72 72)
+    ∷ Refusals.first (Refusals.ladderChecks bothAxes 1 wall 71 72)
+    ∷ Refusals.first (Refusals.ladderChecks bothAxes 1 wall 72 71)
+    ∷ Refusals.first (Refusals.ladderChecks rowsOnly 1 wall 18 19)
+    ∷ Refusals.first (Refusals.ladderChecks rowsOnly 1 wall 6 18)
+    ∷ Refusals.first (Refusals.ladderChecks bothAxes 6 wall 6 0)
+    ∷ Refusals.first (Refusals.ladderChecks bothAxes 10 wall 6 0)
+    -- direct
     ∷ Refusals.first (Refusals.directChecks uneven wall 4 2 18)
     ∷ Refusals.first (Refusals.directChecks uneven wall 3 2 18)
     ∷ Refusals.first (Refusals.directChecks uneven wall 4 1 18)
@@ -207,6 +217,7 @@ pub answers :
     ∷ 0 ∷ 7 ∷ 8 ∷ 10 ∷ 10
     ∷ 9 ∷ 9 ∷ 9 ∷ 9 ∷ 9 ∷ 9
     ∷ 0 ∷ 7 ∷ 8
+    ∷ 0 ∷ 7 ∷ 8 ∷ 0 ∷ 7 ∷ 4 ∷ 16
     ∷ 0 ∷ 7 ∷ 7 ∷ 7
     ∷ 0 ∷ 7 ∷ 11
     ∷ 0 ∷ 7 ∷ 8
@@ -217,5 +228,5 @@ pub answers :
     ∷ 0 ∷ 14 ∷ 1 ∷ 14 ∷ 2 ∷ 5 ∷ 14
     ∷ 0 ∷ 8 ∷ 14
     ∷ []
-unfolding sum tab part total product somewhere boxOrder order weight gain fullWidth fullHeight boxCells cascadeCells streamCells Job.low16 Job.mark Job.version Job.read16 Job.jobBytes Job.jobLength Job.jobRecipe Job.jobWidth Job.jobHeight Refusals.tooLong Refusals.zeroWidth Refusals.tooFar Refusals.tooHeavy Refusals.badSide Refusals.badSides Refusals.otherPixels Refusals.otherOutput Refusals.tooFewCells Refusals.badState Refusals.rowNotDue Refusals.drainNotDue Refusals.tooBright Refusals.oddApart Refusals.parityDiffers Refusals.productTooHeavy Refusals.badHead Refusals.cutShort Refusals.otherTotal Refusals.overProgram Refusals.outside Refusals.check Refusals.first Refusals.recipeChecks Refusals.sizeChecks Refusals.pictureChecks Refusals.startChecks Refusals.rowChecks Refusals.drainChecks Refusals.fullSize Refusals.passChecks Refusals.directChecks Refusals.roundChecks Refusals.sameSizeChecks Refusals.differenceChecks Refusals.readingChecks Refusals.compareChecks Refusals.jobChecks Refusals.writeChecks Refusals.programChecks
+unfolding sum tab part total product somewhere boxOrder order weight gain fullWidth fullHeight boxCells cascadeCells streamCells Job.low16 Job.mark Job.version Job.read16 Job.jobBytes Job.jobLength Job.jobRecipe Job.jobWidth Job.jobHeight Refusals.tooLong Refusals.zeroWidth Refusals.tooFar Refusals.tooHeavy Refusals.badSide Refusals.badSides Refusals.otherPixels Refusals.otherOutput Refusals.tooFewCells Refusals.badState Refusals.rowNotDue Refusals.drainNotDue Refusals.tooBright Refusals.oddApart Refusals.parityDiffers Refusals.productTooHeavy Refusals.badHead Refusals.cutShort Refusals.otherTotal Refusals.overProgram Refusals.outside Refusals.check Refusals.first Refusals.recipeChecks Refusals.sizeChecks Refusals.pictureChecks Refusals.startChecks Refusals.rowChecks Refusals.drainChecks Refusals.fullSize Refusals.passChecks rungs onAxes ladder Refusals.badLevel Refusals.ladderChecks Refusals.directChecks Refusals.roundChecks Refusals.sameSizeChecks Refusals.differenceChecks Refusals.readingChecks Refusals.compareChecks Refusals.jobChecks Refusals.writeChecks Refusals.programChecks
 answers = refl

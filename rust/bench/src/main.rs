@@ -139,8 +139,8 @@ const LEVELS: [(&str, usize, bool); 2] = [
 ];
 
 /// The ladder of the library beside its pass by pass on the level's recipe, and
-/// beside the same climb in Rust. The three share their buffers, since times of
-/// the same passes differ by some percent with the place of the buffers.
+/// beside the same climb in Rust. The three share their buffers, so that where
+/// these lie in memory is the same for all.
 fn climbing() {
     println!("The ladder, level by level, beside the library's pass by pass on the level's recipe");
     println!("and the same climb in Rust, all three in the same buffers.");

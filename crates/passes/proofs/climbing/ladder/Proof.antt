@@ -15,7 +15,7 @@ use Rattle.laws.proofs.Slices.{front-lent}
 use Rattle.laws.proofs.Refusals.{read-refused, read-accepted, written-not, written-all}
 use Rattle.filter.specs.Answers.{sizeTold}
 use Rattle.passes.specs.Climbed.{axesOf}
-use Rattle.passes.proofs.Answering.{Asked, asked-none, by-level, after-level, good-level}
+use Rattle.passes.proofs.Answering.{Asked, asked-none, by-level, after-level, level-most}
 use Rattle.passes.proofs.climbing.ladder.Statement.{statement}
 use Rattle.passes.proofs.climbing.ladder.Tie as tie
 
@@ -29,7 +29,7 @@ returns c =
     (by-level _ _ _ _ _ (sym (c .before .bad-level .ensures) ∙ c .if1 .taken)) (λ z. omega arith)
 
 level-filter-requires : tie.Need-level-filter-requires
-level-filter-requires c κs = good-level _ (sym (c .before .bad-level .ensures) ∙ c .if1 .left)
+level-filter-requires c κs = level-most _ (sym (c .before .bad-level .ensures) ∙ c .if1 .left)
 
 checked-size-requires : tie.Need-checked-size-requires
 checked-size-requires c κs = search needs
@@ -101,7 +101,7 @@ unfolding fullSides
 climb-requires c κs =
     let k = asked (c .before .before) in
     let free = c .before .before .before .before .before .before .before in (
-      good-level _ (sym (free .before .bad-level .ensures) ∙ free .if1 .left),
+      level-most _ (sym (free .before .bad-level .ensures) ∙ free .if1 .left),
       k .picture,
       ap (λ (s : Sides). s .width) (sides (c .before .before) .1),
       k .output,

@@ -41,8 +41,8 @@ loop-holds c =
       λ k h. none-filtered a (args .full-width) (at (present (args .in-out) (args .out .now) (args .work .now))) k,
     )
 
-rung-requires : tie.Need-rung-requires Inv-loop μ-loop
-rung-requires c κs = omega (arith, c .loop-test .taken, c .before .before .before .before .pre .0)
+rung-at-requires : tie.Need-rung-at-requires Inv-loop μ-loop
+rung-at-requires c κs = omega (arith, c .loop-test .taken, c .before .before .before .before .pre .0)
 
 carry-requires : tie.Need-carry-requires Inv-loop μ-loop
 unfolding ladder
@@ -55,7 +55,7 @@ carry-requires c κs =
     let first = at (present (args .in-out) (args .out .now) (args .work .now)) in
     let now = present (turn .held) (turn .out) (turn .work) in
     let most : args .level + 2 ≤ 10 = omega (arith, start .pre .0) in
-    let is = sym (c .before .before .rung .ensures) in
+    let is = sym (c .before .before .rung-at .ensures) in
     let more = c .before .before .before .loop-test .taken in (
       subst Accepted is
           (rung-accepted a (args .full-width) first size (args .level + 2) most (start .pre .1) (start .pre .5) (turn .i) more now (turn .inv .4)),
@@ -85,7 +85,7 @@ loop-again c =
     let first = at (present (args .in-out) (args .out .now) (args .work .now)) in
     let now = present (turn .held) (turn .out) (turn .work) in
     let most : args .level + 2 ≤ 10 = omega (arith, start .pre .0) in
-    let is = c .before .before .before .before .before .before .before .rung .ensures in
+    let is = c .before .before .before .before .before .before .before .rung-at .ensures in
     let more = c .before .before .before .before .before .before .before .before .loop-test .taken in
     let carry = c .before .before .before .before .carry in (
       search needs,
@@ -125,7 +125,7 @@ levels-spec =
     μ-loop
     add-i-end
     loop-holds
-    rung-requires
+    rung-at-requires
     carry-requires
     add-i
     loop-less

@@ -1,4 +1,4 @@
--- `passes::climbing::rung` meets its contract: one width of the ladder, on these axes.
+-- `passes::climbing::rung_at` meets its contract: one width of the ladder, on these axes.
 -- Assumes nothing.
 use mathlib.Core.Path.{ap, _∙_}
 use mathlib.Core.List.{[], _∷_}
@@ -8,8 +8,8 @@ use lib.ListN.{getD}
 use Rattle.spec.specs.Words.{tab, part}
 use Rattle.spec.specs.Ladder.{rungs, onAxes}
 use Rattle.passes.specs.Climbed.{axesOf}
-use Rattle.passes.proofs.climbing.rung.Statement.{statement}
-use Rattle.passes.proofs.climbing.rung.Tie as tie
+use Rattle.passes.proofs.climbing.rung_at.Statement.{statement}
+use Rattle.passes.proofs.climbing.rung_at.Tie as tie
 
 rungs-requires : tie.Need-rungs-requires
 rungs-requires c κs = search needs
@@ -24,5 +24,5 @@ returns c =
     c .on-axes .ensures
     ∙ ap (onAxes (axesOf (start .args .axes))) (c .before .rungs .ensures ∙ ap (λ k. getD rungs k 0 ∷ []) (add-zero (start .args .i)))
 
-pub rung-spec : {M : Type 1} → statement M
-rung-spec = tie.close (tie.spec rungs-requires on-axes-requires returns)
+pub rung-at-spec : {M : Type 1} → statement M
+rung-at-spec = tie.close (tie.spec rungs-requires on-axes-requires returns)
