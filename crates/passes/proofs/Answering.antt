@@ -1,12 +1,13 @@
 -- What the checks of the method answer, by the lengths of the slices, and those of the ladder, by the level first.
 -- Assumes nothing.
-use mathlib.Core.Path.{_≡_, refl, _∙_}
-use mathlib.Core.Bool.{true, false}
+use mathlib.Core.Path.{_≡_, refl, sym, _∙_}
+use mathlib.Core.Bool.{true, false, true≢false}
 use mathlib.Core.List.{[], _∷_}
 use Prim.Native.Nat.{ℕ, _*_, _≤_, _<_}
+use native.Mathlib.Omega.{arith}
 use lib.Dec.{eqb, ltb}
 use lib.ListN.{length}
-use borrow.Author.Tests.{ltb-false}
+use borrow.Author.Tests.{eq-eqb, ltb-false}
 use Rattle.spec.specs.Recipe.{Recipe}
 use Rattle.spec.specs.Picture.{Picture}
 use Rattle.spec.specs.Ladder.{Axes, ladder}
@@ -72,6 +73,9 @@ pub after-level : (a : Axes) (level : ℕ) (p : Picture) (out cells : ℕ) → b
 unfolding ladderChecks check first
 after-level a level p out cells e = rw e refl
 
-pub level-most : (level : ℕ) → badLevel level ≡ false → level ≤ 8
+pub level-within : (level : ℕ) → badLevel level ≡ false → (0 < level) × (level ≤ 8)
 unfolding badLevel
-level-most level e = ltb-false 8 level (neither (eqb level 0) (ltb 8 level) e .1)
+level-within level e =
+    let both = neither (eqb level 0) (ltb 8 level) e in
+    let some : level ≡ 0 → ⊥ = λ z. true≢false (sym (eq-eqb level 0 z) ∙ both .0) in
+    (omega arith, ltb-false 8 level (both .1))

@@ -83,8 +83,8 @@ fn rung_at(axes: Axes, i: usize) -> Filter
 }
 
 // The levels up to the one that is named, on what stands in one of the buffers in rows of full_width
-// places: the first three widths make level 1, and each further one makes the next level from the sums
-// of the level below, which one of the buffers holds. Returns whether `out` holds the last.
+// places: level 1 by its whole recipe, and each further level by its one new width from the sums of the
+// level below, which one of the buffers holds. Returns whether `out` holds the last.
 fn levels(
     level: usize,
     axes: Axes,
@@ -94,14 +94,14 @@ fn levels(
     work: &mut [u64],
 ) -> bool
     requires { let r = ladderOf (axesOf axes) level in
-        ⌜ (level ≤ 8) × Accepted r × (length (now work) ≡ length (now out)) × (0 < «full_width») × (255 * «full_width» ≤ 2 ^ 32)
+        ⌜ (0 < level) × (level ≤ 8) × Accepted r × (length (now work) ≡ length (now out)) × (0 < «full_width») × (255 * «full_width» ≤ 2 ^ 32)
         × Small (length (now out)) (filtered r «full_width» (at (present «in_out» (now out) (now work)))) ⌝ }
     ensures { λ b. let r = ladderOf (axesOf axes) level in
         ⌜ (b ≡ turnedAll r «in_out»)
         × Below (length (now (out .entry))) (filtered r «full_width» (at (present «in_out» (now (out .entry)) (now (work .entry))))) (present b (now (out .exit)) (now (work .exit))) ⌝ }
 {
-    let mut held = in_out;
-    for i in 0..level + 2 {
+    let mut held = carry(level_filter(axes, 1), full_width, in_out, out, work);
+    for i in 3..level + 2 {
         held = carry(rung_at(axes, i), full_width, held, out, work);
     }
     held
@@ -119,7 +119,7 @@ fn climb(
     work: &mut [u64],
 )
     requires { let p = picture width height (now pixels) in let r = ladderOf (axesOf axes) level in
-        ⌜ (level ≤ 8) × AcceptedPicture r p
+        ⌜ (0 < level) × (level ≤ 8) × AcceptedPicture r p
         × («full_width» ≡ fullWidth r width)
         × (length (now out) ≡ fullSize r p) × (length (now work) ≡ length (now out)) ⌝ }
     ensures { λ r. let p = picture width height (now (pixels .entry)) in

@@ -22,7 +22,6 @@ mod programs;
 use bench::{stages, stream, timing, work};
 use bore::Filter;
 use convolution::{Conventional, TwoSteps};
-use std::cell::RefCell;
 use std::hint::black_box;
 use timing::alternate;
 use work::Work;
@@ -139,11 +138,10 @@ const LEVELS: [(&str, usize, bool); 2] = [
 ];
 
 /// The ladder of the library beside its pass by pass on the level's recipe, and
-/// beside the same climb in Rust. The three share their buffers, so that where
-/// these lie in memory is the same for all.
+/// beside the same climb in Rust.
 fn climbing() {
     println!("The ladder, level by level, beside the library's pass by pass on the level's recipe");
-    println!("and the same climb in Rust, all three in the same buffers.");
+    println!("and the same climb in Rust.");
     println!();
     println!(
         "| Ladder | Library, ms | Pass by pass, ms | Rust, ms | Library / pass by pass \
@@ -153,20 +151,18 @@ fn climbing() {
     for (name, level, both) in LEVELS {
         let list = &ladder::WIDTHS[..level + 2];
         let columns = if both { list } else { &[] };
-        let mut work = Work::new(list, columns, SIDE);
-        let sides: [&dyn Fn(&mut Work); 3] = [&|work| work.ladder(level), &Work::passes, &|work| {
-            ladder::run(level, work)
-        }];
-        let [library, passes, rust] = sides.map(|side| {
-            work.out.fill(0);
-            side(&mut work);
-            work.out.clone()
-        });
-        assert!(library == passes, "{name}, pass by pass");
-        assert!(library == rust, "{name}, Rust");
-        let work = RefCell::new(work);
-        let [mut library, mut passes, mut rust] = sides.map(|side| || side(&mut work.borrow_mut()));
-        let [a, b, c] = alternate([&mut library, &mut passes, &mut rust]);
+        let mut library = Work::new(list, columns, SIDE);
+        let (mut passes, mut rust) = (library.clone(), library.clone());
+        library.ladder(level);
+        passes.passes();
+        ladder::run(level, &mut rust);
+        assert!(library.out == passes.out, "{name}, pass by pass");
+        assert!(library.out == rust.out, "{name}, Rust");
+        let [a, b, c] = alternate([
+            &mut || library.ladder(level),
+            &mut || passes.passes(),
+            &mut || ladder::run(level, &mut rust),
+        ]);
         let (to_passes, to_rust) = (a / b, a / c);
         println!("| {name} | {a:.2} | {b:.2} | {c:.2} | {to_passes:.2} | {to_rust:.2} |");
     }
@@ -225,8 +221,7 @@ fn comparing() {
 fn main() {
     println!("Picture of 1,024 by 1,024. Times in milliseconds, the least of several runs");
     println!("in alternation. Both sides are built for release, and the buffers are warm:");
-    println!("each side has run with its own buffers before its time is taken (the sides of the");
-    println!("ladder with those that they share).");
+    println!("each side has run with its own buffers before its time is taken.");
     println!();
     println!(
         "Aims: library / Rust within 1.05 for one pass and pass by pass, 1.1 for direct; \

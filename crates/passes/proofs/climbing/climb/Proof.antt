@@ -20,13 +20,13 @@ level-filter-requires : tie.Need-level-filter-requires
 level-filter-requires c κs = search needs
 
 begins-in-out-requires : tie.Need-begins-in-out-requires
-begins-in-out-requires c κs = subst Accepted (sym (c .level-filter .ensures)) (c .before .before .before .before .pre .1 .recipe)
+begins-in-out-requires c κs = subst Accepted (sym (c .level-filter .ensures)) (c .before .before .before .before .pre .2 .recipe)
 
 place-requires : tie.Need-place-requires
 place-requires c κs =
     let start = c .before .before .before .before .before .before .before in
-    let room = picture-room _ _ (start .pre .1) (start .args .full-width) (length (start .args .out .now)) (start .pre .2) (start .pre .3) in
-    (start .pre .1 .size, room .0, room .1, room .2, start .pre .4)
+    let room = picture-room _ _ (start .pre .2) (start .args .full-width) (length (start .args .out .now)) (start .pre .3) (start .pre .4) in
+    (start .pre .2 .size, room .0, room .1, room .2, start .pre .5)
 
 levels-requires : tie.Need-levels-requires
 levels-requires c κs =
@@ -38,14 +38,15 @@ levels-requires c κs =
     let p = picture (args .width) (args .height) (args .pixels .now) in
     let W = args .full-width in
     let size = length (args .out .now) in
-    let a = start .pre .1 in
-    let wide = start .pre .2 in
-    let all = start .pre .3 in
+    let a = start .pre .2 in
+    let wide = start .pre .3 in
+    let all = start .pre .4 in
     let now = present (c .before .before .before .before .before .before .before .before .before .begins-in-out .result) (place .last .1 .1 .1 .1 .1 .0) (place .last .1 .1 .1 .1 .1 .1 .0) in
     let long = place .kept .1 .1 .1 .1 .1 .0 in (
       start .pre .0,
+      start .pre .1,
       a .recipe,
-      place .kept .1 .1 .1 .1 .1 .1 .0 ∙ start .pre .4 ∙ sym long,
+      place .kept .1 .1 .1 .1 .1 .1 .0 ∙ start .pre .5 ∙ sym long,
       picture-room r p a W size wide all .0,
       row-short r p a W size wide all,
       λ k h. picture-small r p a W size wide all now (place .ensures) largestGray (omega arith) (λ i. omega (arith, known .shared-slice-known .given i)) k
@@ -69,7 +70,7 @@ returns c =
     let long = place .kept .1 .1 .1 .1 .1 .0 in
     let ends : levels .result ≡ true =
     levels .ensures .0 ∙ ap (λ r. turnedAll r (begins .result)) (sym (c .before .before .before .before .before .before .before .before .before .before .before .before .before .before .before .level-filter .ensures)) ∙ begins .ensures in
-    picture-done _ _ (start .pre .1) (args .full-width) (length (args .out .now)) (start .pre .2) (start .pre .3) now (place .ensures) _
+    picture-done _ _ (start .pre .2) (args .full-width) (length (args .out .now)) (start .pre .3) (start .pre .4) now (place .ensures) _
     (λ k h.
     ap (λ b. at (present b (levels .last .1 .1 .1 .1 .0) (levels .last .1 .1 .1 .1 .1 .0)) k) (sym ends) ∙ levels .ensures .1 k (omega (arith, long)))
     (levels .kept .1 .1 .1 .1 .0 ∙ long)

@@ -15,7 +15,7 @@ use Rattle.laws.proofs.Slices.{front-lent}
 use Rattle.laws.proofs.Refusals.{read-refused, read-accepted, written-not, written-all}
 use Rattle.filter.specs.Answers.{sizeTold}
 use Rattle.passes.specs.Climbed.{axesOf}
-use Rattle.passes.proofs.Answering.{Asked, asked-none, by-level, after-level, level-most}
+use Rattle.passes.proofs.Answering.{Asked, asked-none, by-level, after-level, level-within}
 use Rattle.passes.proofs.climbing.ladder.Statement.{statement}
 use Rattle.passes.proofs.climbing.ladder.Tie as tie
 
@@ -29,7 +29,7 @@ returns c =
     (by-level _ _ _ _ _ (sym (c .before .bad-level .ensures) ∙ c .if1 .taken)) (λ z. omega arith)
 
 level-filter-requires : tie.Need-level-filter-requires
-level-filter-requires c κs = level-most _ (sym (c .before .bad-level .ensures) ∙ c .if1 .left)
+level-filter-requires c κs = level-within _ (sym (c .before .bad-level .ensures) ∙ c .if1 .left) .1
 
 checked-size-requires : tie.Need-checked-size-requires
 checked-size-requires c κs = search needs
@@ -100,8 +100,10 @@ climb-requires : tie.Need-climb-requires
 unfolding fullSides
 climb-requires c κs =
     let k = asked (c .before .before) in
-    let free = c .before .before .before .before .before .before .before in (
-      level-most _ (sym (free .before .bad-level .ensures) ∙ free .if1 .left),
+    let free = c .before .before .before .before .before .before .before in
+    let good = level-within _ (sym (free .before .bad-level .ensures) ∙ free .if1 .left) in (
+      good .0,
+      good .1,
       k .picture,
       ap (λ (s : Sides). s .width) (sides (c .before .before) .1),
       k .output,
