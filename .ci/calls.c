@@ -7,6 +7,7 @@
 
 enum { WIDTH = 1024, HEIGHT = 2, GROWN = (WIDTH + 255) * (HEIGHT + 254) };
 
+static int64_t leftovers[GROWN];
 static uint8_t pixels[WIDTH * HEIGHT], grays[GROWN], file[WIDTH * HEIGHT + 107];
 static uint64_t sums[GROWN], cells[4 * GROWN], kernels[2][256];
 static int16_t differences[WIDTH * HEIGHT];
@@ -49,12 +50,13 @@ static unsigned greys(const bore_filter *a)
 {
     const size_t size = WIDTH * HEIGHT;
     uint8_t gray;
+    int64_t leftover;
     uint64_t sum;
     double mean;
-    return (unsigned)bore_round(a, sums, WIDTH + 255, grays, WIDTH + 255) +
-           bore_blur(a, WIDTH, HEIGHT, pixels, size, grays, size, cells, 4 * GROWN) +
+    return (unsigned)bore_round(a, sums, WIDTH + 255, grays, WIDTH + 255, leftovers, WIDTH + 255) +
+           bore_blur(a, WIDTH, HEIGHT, pixels, size, grays, size, leftovers, size, cells, 4 * GROWN) +
            bore_difference(a, a, WIDTH, HEIGHT, pixels, size, differences, size, cells, 4 * GROWN) +
-           bore_sample_gray(a, WIDTH, HEIGHT, pixels, size, 9, 1, &gray) +
+           bore_sample_gray(a, WIDTH, HEIGHT, pixels, size, 9, 1, &gray, &leftover) +
            bore_sample_sum(a, WIDTH, HEIGHT, pixels, size, 9, 1, &sum) +
            bore_sample_mean(a, WIDTH, HEIGHT, pixels, size, 9, 1, &mean);
 }

@@ -376,27 +376,33 @@ BORE_CALL bore_drain(const bore_filter *state, bore_state_words *BORE_RESTRICT w
 
 /* ---- Greys, differences and readings ---- */
 
-/* The greys of a row of sums: each sum over the weight, rounded to the nearest, a half upwards.
- * Takes: a filter, the sums, and room for the greys.
- * Refuses: 1, 2, 3, 4; 7 unless out_len is sums_len; 11 where a sum is above 255 times the weight.
- * Writes: all of out.
- * Overlaps nothing: out. */
-BORE_NONNULL(1) BORE_READS(2, 3) BORE_WRITES(4, 5)
+/* The greys of a row of sums: each sum over the weight, rounded to the nearest, a half upwards. And what
+ * rounding left over: each sum less the weight times its grey, from minus half the weight to the weight less 1
+ * and less half the weight, both halves downwards.
+ * Takes: a filter, the sums, and room for the greys and for the leftovers.
+ * Refuses: 1, 2, 3, 4; 7 unless out_len and leftovers_len are sums_len; 11 where a sum is above 255 times the
+ * weight.
+ * Writes: all of out and of leftovers.
+ * Overlaps nothing: out, leftovers. */
+BORE_NONNULL(1) BORE_READS(2, 3) BORE_WRITES(4, 5) BORE_WRITES(6, 7)
 BORE_CALL bore_round(const bore_filter *block, const uint64_t *sums, size_t sums_len,
-                     uint8_t *BORE_RESTRICT out, size_t out_len);
+                     uint8_t *BORE_RESTRICT out, size_t out_len,
+                     int64_t *BORE_RESTRICT leftovers, size_t leftovers_len);
 
 /* The picture blurred in its own size: at column x and row y the grey of the grown sum at x plus half the
- * rows' order and y plus half the columns' order, both halves downwards.
- * Takes: a filter, a picture, room for the greys, and work cells.
+ * rows' order and y plus half the columns' order, both halves downwards, and its leftover, as bore_round has
+ * them.
+ * Takes: a filter, a picture, room for the greys and for the leftovers, and work cells.
  * Refuses: 1, 2, 3, 4; 5 unless both sides are from 1 to 1,024; 6 unless pixels_len is width times height;
- * 7 unless out_len is width times height; 8 where cells_len is below twice the grown size.
- * Writes: all of out. The first cells, twice the grown size of them, then hold anything; those beyond are
- * left.
- * Overlaps nothing: out, cells. */
-BORE_NONNULL(1) BORE_READS(4, 5) BORE_WRITES(6, 7) BORE_WRITES(8, 9)
+ * 7 unless out_len and leftovers_len are width times height; 8 where cells_len is below twice the grown size.
+ * Writes: all of out and of leftovers. The first cells, twice the grown size of them, then hold anything;
+ * those beyond are left.
+ * Overlaps nothing: out, leftovers, cells. */
+BORE_NONNULL(1) BORE_READS(4, 5) BORE_WRITES(6, 7) BORE_WRITES(8, 9) BORE_WRITES(10, 11)
 BORE_CALL bore_blur(const bore_filter *block, size_t width, size_t height,
                     const uint8_t *pixels, size_t pixels_len,
                     uint8_t *BORE_RESTRICT out, size_t out_len,
+                    int64_t *BORE_RESTRICT leftovers, size_t leftovers_len,
                     uint64_t *BORE_RESTRICT cells, size_t cells_len);
 
 /* At each place of the picture the sum of a over its weight less the sum of b over its weight, rounded once
@@ -415,16 +421,17 @@ BORE_CALL bore_difference(const bore_filter *a, const bore_filter *b, size_t wid
                           int16_t *BORE_RESTRICT out, size_t out_len,
                           uint64_t *BORE_RESTRICT cells, size_t cells_len);
 
-/* The grey that bore_blur gives at one place.
+/* The grey that bore_blur gives at one place, and its leftover.
  * Takes: a filter, a picture, and a column and a row of it, counted from 0.
  * Refuses: 1, 2, 3, 4; 5 unless both sides are from 1 to 1,024; 6 unless pixels_len is width times height;
  * 15 for a place outside the picture.
- * Writes: gray.
- * Overlaps nothing: gray. */
-BORE_NONNULL(1, 8) BORE_READS(4, 5)
+ * Writes: gray and leftover.
+ * Overlaps nothing: gray, leftover. */
+BORE_NONNULL(1, 8, 9) BORE_READS(4, 5)
 BORE_CALL bore_sample_gray(const bore_filter *block, size_t width, size_t height,
                            const uint8_t *pixels, size_t pixels_len,
-                           size_t column, size_t row, uint8_t *BORE_RESTRICT gray);
+                           size_t column, size_t row, uint8_t *BORE_RESTRICT gray,
+                           int64_t *BORE_RESTRICT leftover);
 
 /* The exact sum that bore_blur rounds at one place.
  * Takes and refuses: as bore_sample_gray does.

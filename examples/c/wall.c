@@ -18,6 +18,7 @@ struct buffers {
     uint64_t *cells;
     uint64_t *row;
     uint8_t *grays;
+    int64_t *leftovers;
 };
 
 static void *reserve(size_t count, size_t size)
@@ -129,7 +130,7 @@ static int print_blur(const bore_job *job, const uint8_t *pixels, const struct b
 {
     size_t width = job->words.width, height = job->words.height, size = width * height, i;
     if (!accepted("blur", bore_blur(&job->filter, width, height, pixels, size, lent->grays, size,
-                                    lent->cells, cells_len))) {
+                                    lent->leftovers, size, lent->cells, cells_len))) {
         return 0;
     }
     for (i = 0; i < size; i++) {
@@ -138,20 +139,22 @@ static int print_blur(const bore_job *job, const uint8_t *pixels, const struct b
     return 1;
 }
 
-/* The grey, the sum and the quotient in the middle of the picture. */
+/* The grey with its leftover, the sum and the quotient in the middle of the picture. */
 static int print_reading(const bore_job *job, const uint8_t *pixels)
 {
     size_t width = job->words.width, height = job->words.height;
     size_t size = width * height, column = width / 2, row = height / 2;
     uint8_t gray;
+    int64_t leftover;
     uint64_t sum;
     double mean;
-    if (!accepted("grey", bore_sample_gray(&job->filter, width, height, pixels, size, column, row, &gray)) ||
+    if (!accepted("grey", bore_sample_gray(&job->filter, width, height, pixels, size, column, row, &gray, &leftover)) ||
         !accepted("sum", bore_sample_sum(&job->filter, width, height, pixels, size, column, row, &sum)) ||
         !accepted("quotient", bore_sample_mean(&job->filter, width, height, pixels, size, column, row, &mean))) {
         return 0;
     }
-    printf("at %zu %zu: sum %" PRIu64 ", grey %u, quotient %.17g\n", column, row, sum, (unsigned)gray, mean);
+    printf("at %zu %zu: sum %" PRIu64 ", grey %u, leftover %" PRId64 ", quotient %.17g\n",
+           column, row, sum, (unsigned)gray, leftover, mean);
     return 1;
 }
 
@@ -178,11 +181,13 @@ static int print_job(const bore_job *job, const uint8_t *pixels, const bore_filt
     lent.cells = reserve(cells_len, sizeof *lent.cells);
     lent.row = reserve(full_width, sizeof *lent.row);
     lent.grays = reserve(width * height, sizeof *lent.grays);
+    lent.leftovers = reserve(width * height, sizeof *lent.leftovers);
     is_printed = print_stream(job, pixels, &lent, cells_len) && print_blur(job, pixels, &lent, cells_len) &&
                  print_reading(job, pixels) && print_comparison(&job->filter, other);
     free(lent.cells);
     free(lent.row);
     free(lent.grays);
+    free(lent.leftovers);
     return is_printed;
 }
 

@@ -1,23 +1,22 @@
 -- Differences: the nearest whole number of each sign, and a byte and its negation in 16 bits.
 -- Assumes nothing.
-use mathlib.Core.Path.{_≡_, sym, ap, ap₂, subst, _∙_}
-use mathlib.Core.Bool.{Bool, true, false, cond}
+use mathlib.Core.Path.{_≡_, sym, ap, ap₂, _∙_}
+use mathlib.Core.Bool.{Bool, cond}
 use mathlib.Core.List.{List}
-use Prim.Native.Nat.{ℕ, zero, suc, _-_, _*_, _^_, _≤_, _<_}
+use Prim.Native.Nat.{ℕ, _-_, _*_, _≤_, _<_}
 use native.Mathlib.Omega.{arith}
 use borrow.Author.Tests.{le-leb, lt-leb}
-use lib.Dec.{ltb}
 use lib.ListN.{getD}
-use lib.IntN.{ℤ, pos, negsuc, negℤ, _-ℤ_, +ℤ-idl}
-use lib.Signed.{mag}
+use lib.IntN.{ℤ, pos, negℤ, _-ℤ_}
 use mir.Syntax.{w16}
-use mir.Val.{SFits, toZ}
+use mir.Val.{toZ}
 use mir.Facts.{toZ-pos}
 use Rattle.spec.specs.Words.{tab}
 use Rattle.spec.specs.Recipe.{Recipe, gain}
 use Rattle.spec.specs.Picture.{Picture}
 use Rattle.spec.specs.Gray.{gray, nearest, nearestDifference, sameSum, difference}
 use Rattle.laws.proofs.Lists.{tab-agree}
+use Rattle.laws.proofs.Signed.{negated-is}
 use Rattle.gray.proofs.Dividing.{nearest-gray}
 
 -- the nearest whole number of (x - y) over the weight, where that is not negative and where it is
@@ -33,23 +32,12 @@ module _ (x y weight : ℕ) where
   unfolding nearestDifference
   negative h = sym (ap either (lt-leb y x h) ∙ ap (λ n. negℤ (pos n)) (nearest-gray (y - x) weight))
 
--- a byte in 16 bits, its negation, and the difference of two
+-- a byte in 16 bits, and its negation
 pub byte-is : (n : ℕ) → n ≤ 255 → toZ w16 n ≡ pos n
 byte-is n h = toZ-pos w16 (omega arith)
 
-pub negated-is : (n : ℕ) → n ≤ 255 → pos 0 -ℤ toZ w16 n ≡ negℤ (pos n)
-negated-is n h = ap (λ z. pos 0 -ℤ z) (byte-is n h) ∙ +ℤ-idl (negℤ (pos n))
-
-pub apart-fits : (m n : ℕ) → m ≤ 255 → n ≤ 255 → SFits w16 (toZ w16 m -ℤ toZ w16 n)
-apart-fits m n g h = subst (SFits w16) (sym (ap₂ _-ℤ_ (byte-is m g) (byte-is n h))) (record { sfits = small m n g h })
-  where
-    small : (m n : ℕ) → m ≤ 255 → n ≤ 255 → mag (pos m -ℤ pos n) < 2 ^ 15
-    small m zero g h = omega arith
-    small m (suc n) g h = go (ltb m (suc n))
-      where
-        go : (b : Bool) → mag (cond b (negsuc (suc n - suc m)) (pos (m - suc n))) < 2 ^ 15
-        go true = omega arith
-        go false = omega arith
+pub byte-negated : (n : ℕ) → n ≤ 255 → pos 0 -ℤ toZ w16 n ≡ negℤ (pos n)
+byte-negated n h = ap (λ z. pos 0 -ℤ z) (byte-is n h) ∙ negated-is n
 
 -- two rows of the sums that are taken, as a row of differences
 pub row-of-differences : (a b : Recipe) (p : Picture) (j : ℕ) (xs ys : List ℕ) (u v m : ℕ) → u ≡ gain a → v ≡ gain b → m ≡ p .width

@@ -1,28 +1,65 @@
--- What the same-size blur answers: the order of its checks.
+-- What the same-size blur answers: the order of its checks, and what is left where one of them holds and where none does.
 -- Assumes nothing.
-use mathlib.Core.Path.{_≡_}
-use mathlib.Core.List.{[], _∷_}
-use Prim.Native.Nat.{ℕ, _*_}
-use lib.ListN.{length}
+use mathlib.Core.Path.{_≡_, sym, _∙_}
+use mathlib.Core.Bool.{_||_}
+use mathlib.Core.List.{List, [], _∷_, _++_}
+use Prim.Native.Nat.{ℕ, _*_, _≤_, _<_}
+use lib.IntN.{ℤ}
+use lib.ListN.{length, take, drop}
 use Rattle.spec.specs.Recipe.{Recipe}
 use Rattle.spec.specs.Picture.{Picture}
+use Rattle.spec.specs.Gray.{places, sameGray, sameLeftover}
 use Rattle.spec.specs.Refusals.{check, first, otherOutput, tooFewCells, fullSize, sizeChecks, sameSizeChecks}
-use Rattle.laws.proofs.Refusals.{picture-sides, picture-pixels, picture-rest}
+use Rattle.laws.proofs.Refusals.{picture-sides, picture-pixels, picture-rest, by-outputs, by-second-output, after-outputs, by-cells, after-cells, lent-refused, lent-accepted, written-not, written-all}
+use Rattle.gray.specs.Blurred.{Blurred, checks}
 
-module _ (r : Recipe) (p : Picture) (out cells : ℕ) where
+module _ (r : Recipe) (p : Picture) (out left cells : ℕ) where
   abbrev number : ℕ
-  number = first (sameSizeChecks r p out cells)
+  number = first (sameSizeChecks r p out left cells)
 
   pub blur-sides : (n : ℕ) → first (sizeChecks r (p .width) (p .height)) ≡ n → (n ≡ 0 → ⊥) → number ≡ n
   unfolding sameSizeChecks
   blur-sides n e h = picture-sides r p _ n e h
 
   module _ (z : first (sizeChecks r (p .width) (p .height)) ≡ 0) where
-    pub blur-pixels : (length (p .pixels) ≡ p .width * p .height → ⊥) → number ≡ 6
+    abbrev size : ℕ
+    size = p .width * p .height
+
+    pub blur-pixels : (length (p .pixels) ≡ size → ⊥) → number ≡ 6
     unfolding sameSizeChecks
     blur-pixels h = picture-pixels r p _ z h
 
-    pub blur-rest : length (p .pixels) ≡ p .width * p .height
-        → number ≡ first (check (otherOutput out (p .width * p .height)) 7 ∷ check (tooFewCells cells (2 * fullSize r p)) 8 ∷ [])
-    unfolding sameSizeChecks
-    blur-rest e = picture-rest r p _ z e
+    module _ (e : length (p .pixels) ≡ size) where
+      rest : number ≡ first (check (otherOutput out size || otherOutput left size) 7 ∷ check (tooFewCells cells (2 * fullSize r p)) 8 ∷ [])
+      unfolding sameSizeChecks
+      rest = picture-rest r p _ z e
+
+      pub blur-output : (out ≡ size → ⊥) → number ≡ 7
+      blur-output h = rest ∙ by-outputs _ _ _ _ h
+
+      module _ (f : out ≡ size) where
+        pub blur-leftovers : (left ≡ size → ⊥) → number ≡ 7
+        blur-leftovers h = rest ∙ by-second-output _ _ _ _ f h
+
+        module _ (g : left ≡ size) where
+          pub blur-cells : cells < 2 * fullSize r p → number ≡ 8
+          blur-cells h = rest ∙ after-outputs _ _ _ _ f g ∙ by-cells _ _ _ h
+
+          pub blur-none : 2 * fullSize r p ≤ cells → number ≡ 0
+          unfolding first
+          blur-none h =
+              rest
+              ∙ after-outputs (check (tooFewCells cells (2 * fullSize r p)) 8 ∷ []) _ _ _ f g
+              ∙ after-cells [] _ _ h
+
+-- on a refusal nothing is written; otherwise all is
+module _ (r : Recipe) (p : Picture) (out : List ℕ) (left : List ℤ) (cells : List ℕ) where
+  pub blur-not : (n : ℕ) → first (checks r p out left cells) ≡ n → (n ≡ 0 → ⊥) → Blurred r p out left cells n out left cells
+  blur-not n e h = record { grays = written-not _ _ _ _ _ n e h; leftovers = sym (lent-refused _ _ left n e h) }
+
+  pub blur-all : first (checks r p out left cells) ≡ 0 → (newOut : List ℕ) (newLeft : List ℤ) (newCells : List ℕ)
+      → newOut ≡ places p (sameGray r p) → newLeft ≡ places p (sameLeftover r p)
+      → newCells ≡ take (2 * fullSize r p) newCells ++ drop (2 * fullSize r p) cells → length newCells ≡ length cells
+      → Blurred r p out left cells 0 newOut newLeft newCells
+  blur-all e newOut newLeft newCells m l w n =
+      record { grays = written-all _ _ _ _ _ e newOut newCells m w n; leftovers = l ∙ sym (lent-accepted _ _ left e) }

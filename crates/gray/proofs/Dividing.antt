@@ -164,6 +164,14 @@ own-weight w by d = ap (λ (x : Divisor). x .weight) (d .is)
 pub divides-own : (w : ℕ) (by : Divisor) → Divides w by → Divides (by .weight) by
 divides-own w by d = subst (λ v. Divides v by) (sym (own-weight w by d)) d
 
+-- what multiplies by a weight that has a single bit set
+pub single-shift : (w : ℕ) (by : Divisor) → Divides w by → by .single ≡ true → (2 ^ by .shift ≡ w) × (by .shift < 64)
+single-shift w by d e =
+    let is = d .is in
+    let q = single-bit 64 w (omega (arith, d .light)) (eqb-true (ones w) 1 (ap (λ (x : Divisor). x .single) (sym is) ∙ e)) in
+    let shift : by .shift ≡ trailingZeros 64 w = ap (λ (x : Divisor). x .shift) is in
+    (ap (λ k. 2 ^ k) shift ∙ q .0, subst (λ k. k < 64) (sym shift) (q .1))
+
 -- a quotient that is a grey
 pub rounded-gray : (most w : ℕ) (by : Divisor) → Divides w by → Suits most → (s q : ℕ) → s ≤ most * w → q ≡ quotient by s → (q ≡ gray w s) × (q ≤ most)
 rounded-gray most w by d suits s q bounded e =

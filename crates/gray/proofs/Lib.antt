@@ -1,3 +1,4 @@
 pub mod Dividing
 pub mod Grays
 pub mod Answering
+pub mod Leftovers

@@ -1,3 +1,4 @@
 pub mod Division
 pub mod Rounded
 pub mod Blurred
+pub mod Leftovers

@@ -1,14 +1,20 @@
--- What rounding a row of sums answers, and what the lent slice then contains.
+-- What rounding a row of sums answers, and what the lent slices then contain.
 use mathlib.Core.Path.{_≡_}
 use mathlib.Core.List.{List}
 use Prim.Native.Nat.{ℕ}
+use lib.IntN.{ℤ}
 use lib.ListN.{length}
 use Rattle.spec.specs.Recipe.{Recipe, gain}
-use Rattle.spec.specs.Gray.{grays}
-use Rattle.spec.specs.Refusals.{first, lent, roundChecks}
+use Rattle.spec.specs.Gray.{grays, leftovers}
+use Rattle.spec.specs.Refusals.{Check, first, lent, roundChecks}
 
-pub record Rounded (r : Recipe) (sums out : List ℕ) (number : ℕ) (newOut : List ℕ) : Type 0 where
+-- the checks of a call that lends these slices for greys and for leftovers
+abbrev pub checks : Recipe → List ℕ → List ℕ → List ℤ → List Check
+checks r sums out left = roundChecks r sums (length out) (length left)
+
+pub record Rounded (r : Recipe) (sums out : List ℕ) (left : List ℤ) (number : ℕ) (newOut : List ℕ) (newLeft : List ℤ) : Type 0 where
   -- 0, or the number of the first check that holds
-  pub answer : number ≡ first (roundChecks r sums (length out))
-  -- the greys, or on a refusal what the slice held
-  pub grays : newOut ≡ lent (roundChecks r sums (length out)) (grays (gain r) sums) out
+  pub answer : number ≡ first (checks r sums out left)
+  -- the greys and their leftovers, or on a refusal what the slices held
+  pub grays : newOut ≡ lent (checks r sums out left) (grays (gain r) sums) out
+  pub leftovers : newLeft ≡ lent (checks r sums out left) (leftovers (gain r) sums) left

@@ -4,6 +4,7 @@ mod same;
 mod wrapping;
 
 pub use rounding::Divisor;
+pub use rounding::Shade;
 pub use rounding::divisor_of;
 pub use rounding::round;
 pub use rounding::rounded;

@@ -1,11 +1,12 @@
-// Document 01's rounding: a sum over the weight, and a row of sums.
+// Document 01's rounding with document 02's leftover: a sum over the weight, and a row of sums.
 ghost use mathlib.Core.Path.{_≡_};
+ghost use Prim.Native.Nat.{_*_, _≤_};
 ghost use lib.Dec.{ltb};
 ghost use lib.ListN.{length};
 ghost use Rattle.spec.specs.Words.{somewhere};
 ghost use Rattle.spec.specs.Recipe.{recipe};
 ghost use Rattle.spec.specs.Picture.{largestGray};
-ghost use Rattle.spec.specs.Gray.{grays};
+ghost use Rattle.spec.specs.Gray.{gray, leftover, grays, leftovers as leftoversOf};
 ghost use Rattle.gray.specs.Division.{divisor, byReciprocal, quotient, Divides, Bounded};
 ghost use Rattle.gray.specs.Rounded.{Rounded};
 use crate::wrapping::wrapping_mul_u64;
@@ -69,13 +70,40 @@ pub fn rounded(sum: u64, by: Divisor) -> u64
     }
 }
 
-// The greys of a row of sums.
-pub(crate) fn round_row(by: Divisor, sums: &[u64], out: &mut [u8])
-    requires { ⌜ Divides (by .weight) by × Bounded largestGray (by .weight) (now sums) × (length (now sums) ≡ length (now out)) ⌝ }
-    ensures { λ r. ⌜ now (out .exit) ≡ grays (by .weight) (now (sums .entry)) ⌝ }
+// A grey, and the leftover of its sum.
+pub struct Shade {
+    pub gray: u8,
+    pub leftover: i64,
+}
+
+// Rounds one sum: its grey, and the leftover, sum less weight times grey. The product is formed by the
+// shift where the quotient is.
+fn round_one(sum: u64, by: Divisor) -> Shade
+    requires { ⌜ Divides (by .weight) by × (sum ≤ largestGray * by .weight) ⌝ }
+    ensures { λ r. ⌜ (r .gray ≡ gray (by .weight) sum) × (r .leftover ≡ leftover (by .weight) sum) ⌝ }
 {
-    for k in 0..out.len() {
-        out[k] = rounded(sums[k], by) as u8;
+    let quotient = rounded(sum, by);
+    let product = if by.single {
+        quotient << by.shift
+    } else {
+        quotient * by.weight
+    };
+    let gray = quotient as u8;
+    let leftover = (sum as i64) - (product as i64);
+    Shade { gray, leftover }
+}
+
+// The greys of a row of sums, and their leftovers.
+pub(crate) fn round_row(by: Divisor, sums: &[u64], out: &mut [u8], leftovers: &mut [i64])
+    requires { ⌜ Divides (by .weight) by × Bounded largestGray (by .weight) (now sums)
+        × (length (now out) ≡ length (now sums)) × (length (now leftovers) ≡ length (now sums)) ⌝ }
+    ensures { λ r. ⌜ (now (out .exit) ≡ grays (by .weight) (now (sums .entry))) × (now (leftovers .exit) ≡ leftoversOf (by .weight) (now (sums .entry))) ⌝ }
+{
+    for k in 0..sums.len() {
+        let shade = round_one(sums[k], by);
+        let leftover = shade.leftover;
+        out[k] = shade.gray;
+        leftovers[k] = leftover;
     }
 }
 
@@ -92,9 +120,10 @@ fn over(most: u64, sums: &[u64]) -> bool
     found
 }
 
-// The greys of a row of sums, of any length, into as many bytes: refused by 1 to 4, 7, 11.
-pub fn round(filter: Filter, sums: &[u64], out: &mut [u8]) -> u8
-    ensures { λ r. ⌜ Rounded (recipe filter) (now (sums .entry)) (now (out .entry)) r (now (out .exit)) ⌝ }
+// The greys of a row of sums, of any length, into as many bytes, and their leftovers into as many numbers
+// behind them: refused by 1 to 4, 7, 11.
+pub fn round(filter: Filter, sums: &[u64], out: &mut [u8], leftovers: &mut [i64]) -> u8
+    ensures { λ r. ⌜ Rounded (recipe filter) (now (sums .entry)) (now (out .entry)) (now (leftovers .entry)) r (now (out .exit)) (now (leftovers .exit)) ⌝ }
 {
     let m = measure(filter);
     let number = m.refusal;
@@ -104,9 +133,12 @@ pub fn round(filter: Filter, sums: &[u64], out: &mut [u8]) -> u8
     if out.len() != sums.len() {
         return 7;
     }
+    if leftovers.len() != sums.len() {
+        return 7;
+    }
     if over(LARGEST_GRAY * m.gain, sums) {
         return 11;
     }
-    round_row(divisor_of(m.gain), sums, out);
+    round_row(divisor_of(m.gain), sums, out, leftovers);
     0
 }

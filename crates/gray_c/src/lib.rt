@@ -3,29 +3,35 @@
 ghost use mathlib.Core.Path.{_≡_};
 ghost use Rattle.spec.specs.Recipe.{recipe};
 ghost use Rattle.spec.specs.Picture.{picture};
-ghost use Rattle.spec.specs.Gray.{sameSum, sameGray, sameQuotient, reading};
+ghost use Rattle.spec.specs.Gray.{sameSum, sameGray, sameLeftover, sameQuotient};
 ghost use Rattle.spec.specs.Refusals.{first, lent, readingChecks};
 ghost use Rattle.gray.specs.Rounded.{Rounded};
 ghost use Rattle.gray.specs.Blurred.{Blurred};
 ghost use Rattle.difference.specs.Differenced.{Differenced};
-ghost use Rattle.sample.specs.Sampled.{chosen};
+ghost use Rattle.sample.specs.Sampled.{sampledTold};
 ghost use Rattle.blocks.specs.Given.{given};
-ghost use Rattle.gray_c.specs.Placed.{Placed};
+ghost use Rattle.gray_c.specs.Parted.{Parted};
 use blocks::filter_of;
 use sample::Quantity;
 use sample::Sample;
 use sample::Sampled;
-use spec::Filter;
+use sample::reading;
 
-// The greys of a row of sums: 1 to 4, 7, 11.
+// The greys of a row of sums and their leftovers: 1 to 4, 7, 11.
 #[no_mangle]
-pub extern "C" fn bore_round(block: &[u8; 98], sums: &[u64], out: &mut [u8]) -> u8
-    ensures { λ r. ⌜ Rounded (recipe (given (now (block .entry)))) (now (sums .entry)) (now (out .entry)) r (now (out .exit)) ⌝ }
+pub extern "C" fn bore_round(
+    block: &[u8; 98],
+    sums: &[u64],
+    out: &mut [u8],
+    leftovers: &mut [i64],
+) -> u8
+    ensures { λ r. ⌜ Rounded (recipe (given (now (block .entry)))) (now (sums .entry)) (now (out .entry)) (now (leftovers .entry))
+        r (now (out .exit)) (now (leftovers .exit)) ⌝ }
 {
-    gray::round(filter_of(block), sums, out)
+    gray::round(filter_of(block), sums, out, leftovers)
 }
 
-// The blur of a picture in its own size: 1 to 8.
+// The blur of a picture in its own size, and its leftovers: 1 to 8.
 #[no_mangle]
 pub extern "C" fn bore_blur(
     block: &[u8; 98],
@@ -33,13 +39,14 @@ pub extern "C" fn bore_blur(
     height: usize,
     pixels: &[u8],
     out: &mut [u8],
+    leftovers: &mut [i64],
     cells: &mut [u64],
 ) -> u8
     ensures { λ r. ⌜ Blurred (recipe (given (now (block .entry)))) (picture width height (now (pixels .entry)))
-        (now (out .entry)) (now (cells .entry)) r (now (out .exit)) (now (cells .exit)) ⌝ }
+        (now (out .entry)) (now (leftovers .entry)) (now (cells .entry)) r (now (out .exit)) (now (leftovers .exit)) (now (cells .exit)) ⌝ }
 {
     let filter = filter_of(block);
-    gray::blur(filter, width, height, pixels, out, cells)
+    gray::blur(filter, width, height, pixels, out, leftovers, cells)
 }
 
 // The difference of two recipes at each picture place: the first's 1 to 4, then the second's 1 to 4, then
@@ -62,45 +69,48 @@ pub extern "C" fn bore_difference(
     difference::difference(first, second, width, height, pixels, out, cells)
 }
 
-// The reading at a picture place, written to the place of the quantity that is chosen. The other two
-// places stay.
-fn sample_into(
-    filter: Filter,
-    width: usize,
-    height: usize,
-    pixels: &[u8],
-    column: usize,
-    row: usize,
-    quantity: Quantity,
-    gray: &mut u8,
-    sum: &mut u64,
-    mean: &mut f64,
-) -> u8
-    ensures { λ r. let g = recipe filter in let p = picture width height (now (pixels .entry)) in
-        ⌜ Placed (readingChecks g p column row) (reading (chosen quantity) g p column row) (now (gray .entry)) (now (sum .entry)) (now (mean .entry))
-        r (now (gray .exit)) (now (sum .exit)) (now (mean .exit)) ⌝ }
+// An answer of `sample::reading` in parts: the number of a refusal or 0, and what was read; the other parts
+// are 0.
+struct Parts {
+    refusal: u8,
+    gray: u8,
+    leftover: i64,
+    sum: u64,
+    mean: f64,
+}
+
+fn parts_of(answer: Sampled) -> Parts
+    ensures { λ r. ⌜ Parted (sampledTold answer) r ⌝ }
 {
-    let answer = sample::reading(filter, width, height, pixels, column, row, quantity);
+    let mut refusal: u8 = 0;
+    let mut gray: u8 = 0;
+    let mut leftover: i64 = 0;
+    let mut sum: u64 = 0;
+    let mut mean: f64 = 0.0;
     match answer {
-        Sampled::Refused(number) => number,
+        Sampled::Refused(number) => refusal = number,
         Sampled::Of(sample) => match sample {
-            Sample::Gray(value) => {
-                *gray = value;
-                0
+            Sample::Gray {
+                gray: g,
+                leftover: l,
+            } => {
+                gray = g;
+                leftover = l;
             }
-            Sample::Sum(value) => {
-                *sum = value;
-                0
-            }
-            Sample::Mean(value) => {
-                *mean = value;
-                0
-            }
+            Sample::Sum(s) => sum = s,
+            Sample::Mean(m) => mean = m,
         },
+    }
+    Parts {
+        refusal,
+        gray,
+        leftover,
+        sum,
+        mean,
     }
 }
 
-// The grey at one picture place: 1 to 6, 15.
+// The grey at one picture place, and its leftover: 1 to 6, 15.
 #[no_mangle]
 pub extern "C" fn bore_sample_gray(
     block: &[u8; 98],
@@ -110,26 +120,22 @@ pub extern "C" fn bore_sample_gray(
     column: usize,
     row: usize,
     gray: &mut u8,
+    leftover: &mut i64,
 ) -> u8
     ensures { λ r. let g = recipe (given (now (block .entry))) in let p = picture width height (now (pixels .entry)) in
         let cs = readingChecks g p column row in
-        ⌜ (r ≡ first cs) × (now (gray .exit) ≡ lent cs (sameGray g p column row) (now (gray .entry))) ⌝ }
+        ⌜ (r ≡ first cs) × (now (gray .exit) ≡ lent cs (sameGray g p column row) (now (gray .entry)))
+        × (now (leftover .exit) ≡ lent cs (sameLeftover g p column row) (now (leftover .entry))) ⌝ }
 {
-    let for_gray = Quantity::Gray;
-    let mut sum: u64 = 0;
-    let mut mean: f64 = 0.0;
-    sample_into(
-        filter_of(block),
-        width,
-        height,
-        pixels,
-        column,
-        row,
-        for_gray,
-        gray,
-        &mut sum,
-        &mut mean,
-    )
+    let filter = filter_of(block);
+    let chosen = Quantity::Gray;
+    let parts = parts_of(reading(filter, width, height, pixels, column, row, chosen));
+    if parts.refusal == 0 {
+        let left = parts.leftover;
+        *gray = parts.gray;
+        *leftover = left;
+    }
+    parts.refusal
 }
 
 // The exact sum at one picture place: 1 to 6, 15.
@@ -147,21 +153,13 @@ pub extern "C" fn bore_sample_sum(
         let cs = readingChecks g p column row in
         ⌜ (r ≡ first cs) × (now (sum .exit) ≡ lent cs (sameSum g p column row) (now (sum .entry))) ⌝ }
 {
-    let for_sum = Quantity::Sum;
-    let mut gray: u8 = 0;
-    let mut mean: f64 = 0.0;
-    sample_into(
-        filter_of(block),
-        width,
-        height,
-        pixels,
-        column,
-        row,
-        for_sum,
-        &mut gray,
-        sum,
-        &mut mean,
-    )
+    let filter = filter_of(block);
+    let chosen = Quantity::Sum;
+    let parts = parts_of(reading(filter, width, height, pixels, column, row, chosen));
+    if parts.refusal == 0 {
+        *sum = parts.sum;
+    }
+    parts.refusal
 }
 
 // The quotient of sum and weight at one picture place: 1 to 6, 15.
@@ -179,19 +177,11 @@ pub extern "C" fn bore_sample_mean(
         let cs = readingChecks g p column row in
         ⌜ (r ≡ first cs) × (now (mean .exit) ≡ lent cs (sameQuotient g p column row) (now (mean .entry))) ⌝ }
 {
-    let for_mean = Quantity::Mean;
-    let mut gray: u8 = 0;
-    let mut sum: u64 = 0;
-    sample_into(
-        filter_of(block),
-        width,
-        height,
-        pixels,
-        column,
-        row,
-        for_mean,
-        &mut gray,
-        &mut sum,
-        mean,
-    )
+    let filter = filter_of(block);
+    let chosen = Quantity::Mean;
+    let parts = parts_of(reading(filter, width, height, pixels, column, row, chosen));
+    if parts.refusal == 0 {
+        *mean = parts.mean;
+    }
+    parts.refusal
 }

@@ -1,4 +1,5 @@
 pub mod Numbers
+pub mod Signed
 pub mod Sums
 pub mod Lists
 pub mod Slices

@@ -1,15 +1,18 @@
--- How large sums and differences are: the claims of spec/specs/Ranges.antt, and what they rest on, over any largest grey.
+-- How large sums, differences and leftovers are: the claims of spec/specs/Ranges.antt, and what they rest on, over any largest grey.
 -- Assumes nothing.
+use mathlib.Core.Path.{_≡_, subst}
 use mathlib.Core.Bool.{Bool, true, false, cond}
-use Prim.Native.Nat.{ℕ, zero, suc, _-_, _*_, _≤_, _<_}
-use native.Mathlib.Nat.{mul-le-mul-left, mul-le-mul-right, mul-assoc, mul-comm, suc-mul, mul-left-comm, div-lt-iff-lt-mul, le-of-suc-le-suc}
+use Prim.Native.Nat.{ℕ, zero, suc, _+_, _-_, _*_, _/_, _%_, _≤_, _<_}
+use native.Mathlib.Nat.{mul-le-mul-left, mul-le-mul-right, mul-assoc, mul-comm, suc-mul, mul-left-comm, div-lt-iff-lt-mul, div-add-mod', mod-lt, le-of-suc-le-suc}
 use native.Mathlib.Omega.{arith}
 use lib.Dec.{leb}
-use lib.IntN.{pos, negℤ, natAbs}
+use lib.IntN.{pos, negℤ, natAbs, _-ℤ_}
+use lib.Signed.{_≤ℤ_}
 use Rattle.spec.specs.Recipe.{gain}
 use Rattle.spec.specs.Picture.{largestGray}
-use Rattle.spec.specs.Gray.{sameColumn, sameRow, sameSum, nearest, nearestDifference, difference}
-use Rattle.spec.specs.Ranges.{SumsFit, DifferencesFit}
+use Rattle.spec.specs.Gray.{gray, leftover, sameColumn, sameRow, sameSum, placeWeight, sameLeftover, nearest, nearestDifference, difference}
+use Rattle.spec.specs.Ranges.{SumsFit, DifferencesFit, LeftoversFit, SameLeftoversFit}
+use Rattle.laws.proofs.Signed.{not-below-is, same-apart, apart-grows, negated-is}
 use Rattle.laws.proofs.Refusals.{is-accepted-picture}
 use Rattle.laws.proofs.Exact.{exact-small}
 
@@ -48,3 +51,23 @@ differences-fit a b p e f small i j =
     let y = times-other largestGray (gain b) (gain a) _ (exact-small b p largestGray small (sameColumn b i) (sameRow b j)) in
     let positive : 0 < gain a * gain b = omega (arith, mul-le-mul-left (gain a) n) in
     difference-most largestGray _ _ (gain a * gain b) positive x (omega (arith, y, mul-comm (gain b) (gain a)))
+
+-- a leftover is the remainder of the sum and the half, less the half
+leftover-is : (w s : ℕ) → leftover w s ≡ pos ((s + w / 2) % w) -ℤ pos (w / 2)
+unfolding leftover gray
+leftover-is w s =
+    let q : (s + w / 2) / w * w + (s + w / 2) % w ≡ s + w / 2 = div-add-mod' (s + w / 2) w in
+    same-apart s (w * ((s + w / 2) / w)) ((s + w / 2) % w) (w / 2) (omega (arith, q, mul-comm w ((s + w / 2) / w)))
+
+pub leftovers-fit : LeftoversFit
+leftovers-fit w s positive =
+    let rest = (s + w / 2) % w in
+    let under : rest < w = mod-lt (s + w / 2) positive in
+    rw (leftover-is w s) (
+      subst (λ z. z ≤ℤ (pos rest -ℤ pos (w / 2))) (negated-is (w / 2)) (apart-grows 0 rest (w / 2) (omega arith)),
+      subst (λ z. (pos rest -ℤ pos (w / 2)) ≤ℤ z) (not-below-is (w - 1) (w / 2) (omega arith)) (apart-grows rest (w - 1) (w / 2) (omega arith)),
+    )
+
+pub same-leftovers-fit : SameLeftoversFit
+unfolding placeWeight sameLeftover
+same-leftovers-fit r p e i j h l = leftovers-fit (gain r) (sameSum r p i j) (is-accepted-picture r p e .recipe .notZero)

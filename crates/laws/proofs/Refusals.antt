@@ -266,6 +266,21 @@ module _ (ds : List Check) where
   unfolding first check otherOutput otherPixels
   after-output out stated e = ap (λ b. cond b 7 (first ds)) (as-stated out stated e)
 
+  -- for two outputs of one stated length, in their order
+  pub by-outputs : (out second stated : ℕ) → (out ≡ stated → ⊥) → first (check (otherOutput out stated || otherOutput second stated) 7 ∷ ds) ≡ 7
+  unfolding first check otherOutput otherPixels
+  by-outputs out second stated h = ap (λ b. cond (b || otherOutput second stated) 7 (first ds)) (not-stated out stated h)
+
+  pub by-second-output : (out second stated : ℕ) → out ≡ stated → (second ≡ stated → ⊥)
+      → first (check (otherOutput out stated || otherOutput second stated) 7 ∷ ds) ≡ 7
+  unfolding first check otherOutput otherPixels
+  by-second-output out second stated e h = ap₂ (λ a b. cond (a || b) 7 (first ds)) (as-stated out stated e) (not-stated second stated h)
+
+  pub after-outputs : (out second stated : ℕ) → out ≡ stated → second ≡ stated
+      → first (check (otherOutput out stated || otherOutput second stated) 7 ∷ ds) ≡ first ds
+  unfolding first check otherOutput otherPixels
+  after-outputs out second stated e f = ap₂ (λ a b. cond (a || b) 7 (first ds)) (as-stated out stated e) (as-stated second stated f)
+
   pub by-cells : (cells needed : ℕ) → cells < needed → first (check (tooFewCells cells needed) 8 ∷ ds) ≡ 8
   unfolding first check tooFewCells
   by-cells cells needed h = ap (λ b. cond b 8 (first ds)) (lt-ltb cells needed h)

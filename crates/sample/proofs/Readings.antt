@@ -1,17 +1,18 @@
 -- The reading at a picture place, from what is told of the sum there: the same refusal, or how large the sum can be, and what is read
--- from it; and the grey of one sum.
+-- from it; and the grey of one sum and its leftover.
 -- Assumes nothing.
 use mathlib.Core.Path.{_≡_, sym, ap, ap₂, _∙_}
 use mathlib.Core.Bool.{false, _||_}
 use mathlib.Core.List.{List, [], _∷_}
 use Prim.Native.Nat.{ℕ, _*_, _^_, _≤_}
 use native.Mathlib.Omega.{arith}
+use lib.IntN.{ℤ, pos}
 use lib.ListN.{length, getD}
 use borrow.Author.Tests.{le-ltb}
 use Rattle.spec.specs.Words.{somewhere}
 use Rattle.spec.specs.Recipe.{Recipe, gain}
 use Rattle.spec.specs.Picture.{Picture, largestGray, Within}
-use Rattle.spec.specs.Gray.{gray, grays, Reading, Choice, sameColumn, sameRow, sameSum, placeWeight, expressed, reading}
+use Rattle.spec.specs.Gray.{gray, leftover, grays, leftovers, Reading, Choice, sameColumn, sameRow, sameSum, placeWeight, expressed, reading}
 use Rattle.spec.specs.Refusals.{accepted, refused, first, answer, tooBright, recipeChecks, readingChecks}
 use Rattle.laws.proofs.Exact.{exact-small}
 use Rattle.laws.proofs.Refusals.{read-refused, read-accepted, answer-refused, answer-accepted, lent-accepted}
@@ -25,13 +26,17 @@ use Rattle.direct.proofs.Reading.{is-inside}
 use Rattle.gray.specs.Rounded.{Rounded}
 use Rattle.gray.proofs.Grays.{by-brightness}
 
--- the grey of a sum, by rounding a row of one
-pub only-gray : (r : Recipe) (s number : ℕ) (out new : List ℕ) → first (recipeChecks r) ≡ 0 → s ≤ largestGray * gain r → length out ≡ 1
-    → Rounded r (s ∷ []) out number new → getD new 0 0 ≡ gray (gain r) s
-unfolding tooBright somewhere grays
-only-gray r s number out new none small one told =
+-- the grey of a sum and its leftover, by rounding a row of one
+pub only-shade : (r : Recipe) (s number : ℕ) (out : List ℕ) (left : List ℤ) (new : List ℕ) (newLeft : List ℤ)
+    → first (recipeChecks r) ≡ 0 → s ≤ largestGray * gain r → length out ≡ 1 → length left ≡ 1
+    → Rounded r (s ∷ []) out left number new newLeft → (getD new 0 0 ≡ gray (gain r) s) × (getD newLeft 0 (pos 0) ≡ leftover (gain r) s)
+unfolding tooBright somewhere grays leftovers
+only-shade r s number out left new newLeft none small one other told =
     let dark : false ≡ tooBright largestGray (gain r) (s ∷ []) = sym (ap (λ b. b || false) (le-ltb (largestGray * gain r) s small)) in
-    ap (λ l. getD l 0 0) (told .grays ∙ lent-accepted _ _ out (by-brightness r (s ∷ []) out none one false dark))
+    let taken = by-brightness r (s ∷ []) out left none one other false dark in (
+      ap (λ l. getD l 0 0) (told .grays ∙ lent-accepted _ _ out taken),
+      ap (λ l. getD l 0 (pos 0)) (told .leftovers ∙ lent-accepted _ _ left taken),
+    )
 
 module _ (r : Recipe) (p : Picture) (i j : ℕ) (x : Point) (told : pointTold x ≡ answer (readingChecks r p i j) (sameSum r p i j)) where
   -- the sum is refused

@@ -14,9 +14,9 @@ chosen quantity.Gray = asGray
 chosen quantity.Sum = asSum
 chosen quantity.Mean = asQuotient
 
--- the grey, the exact sum, or the quotient
+-- the grey with its leftover, the exact sum, or the quotient
 abbrev pub sampleTold : Sample → Reading
-sampleTold (sample.Gray g) = grayReading g
+sampleTold (sample.Gray g l) = grayReading g l
 sampleTold (sample.Sum s) = sumReading s
 sampleTold (sample.Mean q) = quotientReading q
 

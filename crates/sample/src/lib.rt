@@ -1,18 +1,19 @@
-// Document 01's reading at one picture place, without work cells.
+// Document 01's reading at one picture place, without work cells; document 02's leftover beside the grey.
 ghost use mathlib.Core.Path.{_≡_};
 ghost use Prim.Native.Nat.{_*_, _^_, _≤_};
 ghost use Rattle.spec.specs.Recipe.{recipe, gain};
 ghost use Rattle.spec.specs.Picture.{picture, largestGray};
-ghost use Rattle.spec.specs.Gray.{gray as grayOf, ratio as ratioOf, expressed, reading as readingOf};
+ghost use Rattle.spec.specs.Gray.{gray as grayOf, leftover as leftoverOf, ratio as ratioOf, expressed, reading as readingOf};
 ghost use Rattle.spec.specs.Refusals.{first, answer, recipeChecks, readingChecks};
 ghost use Rattle.sample.specs.Sampled.{chosen, sampleTold, sampledTold};
 use direct::Point;
 use direct::point_sum;
 use filter::measure;
+use gray::Shade;
 use gray::round;
 use spec::Filter;
 
-// What is read: the grey, the exact sum, or the quotient of sum and weight.
+// What is read: the grey with its leftover, the exact sum, or the quotient of sum and weight.
 pub enum Quantity {
     Gray,
     Sum,
@@ -21,7 +22,7 @@ pub enum Quantity {
 
 // What was read, in the same three cases.
 pub enum Sample {
-    Gray(u8),
+    Gray { gray: u8, leftover: i64 },
     Sum(u64),
     Mean(f64),
 }
@@ -40,15 +41,18 @@ fn mean(sum: u64, weight: u64) -> f64
     (sum as f64) / (weight as f64)
 }
 
-// The grey of a sum, as rounding has it for a row of one sum.
-fn shade(filter: Filter, sum: u64) -> u8
+// The grey of a sum and its leftover, as rounding has them for a row of one sum.
+fn shade(filter: Filter, sum: u64) -> Shade
     requires { ⌜ (first (recipeChecks (recipe filter)) ≡ 0) × (sum ≤ largestGray * gain (recipe filter)) ⌝ }
-    ensures { λ r. ⌜ r ≡ grayOf (gain (recipe filter)) sum ⌝ }
+    ensures { λ r. ⌜ (r .gray ≡ grayOf (gain (recipe filter)) sum) × (r .leftover ≡ leftoverOf (gain (recipe filter)) sum) ⌝ }
 {
     let sums = [sum];
     let mut out = [0u8; 1];
-    round(filter, &sums, &mut out);
-    out[0]
+    let mut leftovers = [0i64; 1];
+    round(filter, &sums, &mut out, &mut leftovers);
+    let gray = out[0];
+    let leftover = leftovers[0];
+    Shade { gray, leftover }
 }
 
 // A sum as the quantity that is chosen.
@@ -57,7 +61,12 @@ fn express(filter: Filter, sum: u64, weight: u64, quantity: Quantity) -> Sample
     ensures { λ r. ⌜ sampleTold r ≡ expressed (chosen quantity) weight sum ⌝ }
 {
     match quantity {
-        Quantity::Gray => Sample::Gray(shade(filter, sum)),
+        Quantity::Gray => {
+            let shade = shade(filter, sum);
+            let gray = shade.gray;
+            let leftover = shade.leftover;
+            Sample::Gray { gray, leftover }
+        }
         Quantity::Sum => Sample::Sum(sum),
         Quantity::Mean => Sample::Mean(mean(sum, weight)),
     }

@@ -1,11 +1,12 @@
 -- Examples of definitions that no ◆ case reaches, each computed: the numbers of each call's checks in their order, each condition on both
 -- sides of its limit, the cells and the cost of the one pass, the levels of the ladder, joined recipes, counts of widths, recipes that are
--- told apart, and what filters hold.
+-- told apart, leftovers, and what filters hold.
 -- Assumes nothing.
 use mathlib.Core.Path.{_≡_, refl}
 use mathlib.Core.Bool.{true, false}
 use mathlib.Core.List.{List, [], _∷_, _++_, map}
 use Prim.Native.Nat.{ℕ}
+use lib.IntN.{pos, negsuc}
 use lib.ListN.{replicate}
 use Rattle.spec.specs.declared.Filter.{Filter}
 use Rattle.spec.specs.Words.{sum, tab, part, total, product, somewhere, everywhere, keep, occurs}
@@ -14,6 +15,7 @@ use Rattle.spec.specs.Recipe.{Recipe, widths, recipe, held, heldFilter, 
 use Rattle.spec.specs.Picture.{Picture, picture, fullWidth, fullHeight, grown}
 use Rattle.spec.specs.Stream.{State, stateWith, boxCells, cascadeCells, streamCells, boxCost, cascadeCost, rowCost}
 use Rattle.spec.specs.Ladder.{rungs, Axes, rowsOnly, bothAxes, onAxes, ladder, rung}
+use Rattle.spec.specs.Gray.{gray, leftover}
 use Rattle.spec.specs.Job.{mark, version, read16, jobLength, jobRecipe, jobWidth, jobHeight}
 use Rattle.spec.specs.Cases.{recipeOf, twos, exampleJob}
 use Rattle.spec.specs.Refusals
@@ -35,8 +37,8 @@ module _ (r q : Recipe) (a : Axes) (p : Picture) (s : State) (xs : List ℕ) (k 
       ∷ numbers (Refusals.passChecks r p k m)
       ∷ numbers (Refusals.ladderChecks a k p m n)
       ∷ numbers (Refusals.directChecks r p k m n)
-      ∷ numbers (Refusals.roundChecks r xs k)
-      ∷ numbers (Refusals.sameSizeChecks r p k m)
+      ∷ numbers (Refusals.roundChecks r xs k m)
+      ∷ numbers (Refusals.sameSizeChecks r p k m n)
       ∷ numbers (Refusals.differenceChecks r q p k m)
       ∷ numbers (Refusals.readingChecks r p k m)
       ∷ numbers (Refusals.compareChecks r q)
@@ -192,6 +194,14 @@ pub told-apart :
     ≡ false ∷ false ∷ false ∷ false ∷ false ∷ true ∷ []
 unfolding total everywhere keep occurs struck sameCounts equivalent
 told-apart = refl
+
+-- the leftovers of an even weight and of an odd one, through two greys: a half upwards is the least, and none is as far as a half below
+pub left-over :
+    map (leftover 4) (0 ∷ 1 ∷ 2 ∷ 3 ∷ 4 ∷ 5 ∷ 6 ∷ 7 ∷ []) ∷ map (leftover 3) (0 ∷ 1 ∷ 2 ∷ 3 ∷ 4 ∷ 5 ∷ []) ∷ map (leftover 1) (0 ∷ 7 ∷ []) ∷ []
+    ≡ (pos 0 ∷ pos 1 ∷ negsuc 1 ∷ negsuc 0 ∷ pos 0 ∷ pos 1 ∷ negsuc 1 ∷ negsuc 0 ∷ [])
+    ∷ (pos 0 ∷ pos 1 ∷ negsuc 0 ∷ pos 0 ∷ pos 1 ∷ negsuc 0 ∷ []) ∷ (pos 0 ∷ pos 0 ∷ []) ∷ []
+unfolding gray leftover
+left-over = refl
 
 -- the coefficients of 3,2 need a slice of 4: their reach is 3
 pub coefficient-lengths :

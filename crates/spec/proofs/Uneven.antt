@@ -52,11 +52,23 @@ pub sides : fullSides uneven 3 2 ≡ record { width = 6; height = 3 }
 unfolding total boxOrder order fullWidth fullHeight fullSides
 sides = refl
 
--- the same-size blur, and the difference both ways
+-- the same-size blur with its leftovers, a row of its sums rounded, and the difference both ways
 pub blurred : Gray.places wall (Gray.sameSum uneven wall) ∷ Gray.places wall (Gray.sameGray uneven wall) ∷ []
     ≡ (150 ∷ 180 ∷ 130 ∷ 230 ∷ 350 ∷ 350 ∷ []) ∷ (13 ∷ 15 ∷ 11 ∷ 19 ∷ 29 ∷ 29 ∷ []) ∷ []
 unfolding sum tab total product box convolve kernel boxOrder order weight gain pixel pixelBack exact flatten Gray.gray Gray.places Gray.sameColumn Gray.sameRow Gray.sameSum Gray.placeWeight Gray.sameGray
 blurred = refl
+
+pub blurred-leftovers : Gray.places wall (Gray.sameLeftover uneven wall) ≡ negsuc 5 ∷ pos 0 ∷ negsuc 1 ∷ pos 2 ∷ pos 2 ∷ pos 2 ∷ []
+unfolding sum tab total product box convolve kernel boxOrder order weight gain pixel pixelBack exact flatten Gray.gray Gray.leftover Gray.places Gray.sameColumn Gray.sameRow Gray.sameSum Gray.placeWeight Gray.sameLeftover
+blurred-leftovers = refl
+
+pub rounded : Gray.grays 12 (150 ∷ 180 ∷ 130 ∷ []) ≡ 13 ∷ 15 ∷ 11 ∷ []
+unfolding Gray.gray Gray.grays
+rounded = refl
+
+pub rounded-leftovers : Gray.leftovers 12 (150 ∷ 180 ∷ 130 ∷ []) ≡ negsuc 5 ∷ pos 0 ∷ negsuc 1 ∷ []
+unfolding Gray.gray Gray.leftover Gray.leftovers
+rounded-leftovers = refl
 
 pub differences : Gray.places wall (Gray.difference uneven other wall) ∷ Gray.places wall (Gray.difference other uneven wall) ∷ []
     ≡ (negsuc 0 ∷ pos 0 ∷ negsuc 3 ∷ pos 5 ∷ pos 14 ∷ pos 14 ∷ []) ∷ (pos 1 ∷ pos 0 ∷ pos 4 ∷ negsuc 4 ∷ negsuc 13 ∷ negsuc 13 ∷ []) ∷ []
@@ -67,9 +79,9 @@ differences = refl
 pub readings :
     Gray.reading asGray uneven wall 2 0 ∷ Gray.reading asSum uneven wall 2 0 ∷ Gray.reading asQuotient uneven wall 2 0
     ∷ quotientReading (Gray.sameQuotient uneven wall 2 0) ∷ []
-    ≡ grayReading 11 ∷ sumReading 130 ∷ quotientReading (Ieee.ofBits binary64 0x4025_AAAA_AAAA_AAAB)
+    ≡ grayReading 11 (negsuc 1) ∷ sumReading 130 ∷ quotientReading (Ieee.ofBits binary64 0x4025_AAAA_AAAA_AAAB)
     ∷ quotientReading (Ieee.ofBits binary64 0x4025_AAAA_AAAA_AAAB) ∷ []
-unfolding sum tab total product box convolve kernel boxOrder order weight gain pixel pixelBack exact Gray.gray Gray.sameColumn Gray.sameRow Gray.sameSum Gray.placeWeight Gray.sameGray Gray.float Gray.ratio Gray.sameQuotient Gray.reading Ieee.ofInt Ieee.div Ieee.round Ieee.units Ieee.odd Ieee.size Ieee.climb Ieee.span Ieee.ofBits Ieee.ofFields Gray.expressed
+unfolding sum tab total product box convolve kernel boxOrder order weight gain pixel pixelBack exact Gray.gray Gray.leftover Gray.sameColumn Gray.sameRow Gray.sameSum Gray.placeWeight Gray.sameGray Gray.float Gray.ratio Gray.sameQuotient Gray.reading Ieee.ofInt Ieee.div Ieee.round Ieee.units Ieee.odd Ieee.size Ieee.climb Ieee.span Ieee.ofBits Ieee.ofFields Gray.expressed
 readings = refl
 
 -- the scale card of rows 5, columns 2,2
@@ -175,12 +187,14 @@ pub answers :
     ∷ Refusals.first (Refusals.directChecks uneven wall 4 1 18)
     ∷ Refusals.first (Refusals.directChecks uneven wall 4 2 17)
     -- rounding, same size
-    ∷ Refusals.first (Refusals.roundChecks uneven (3060 ∷ 0 ∷ []) 2)
-    ∷ Refusals.first (Refusals.roundChecks uneven (3061 ∷ 0 ∷ []) 1)
-    ∷ Refusals.first (Refusals.roundChecks uneven (3061 ∷ 0 ∷ []) 2)
-    ∷ Refusals.first (Refusals.sameSizeChecks uneven wall 6 36)
-    ∷ Refusals.first (Refusals.sameSizeChecks uneven wall 5 36)
-    ∷ Refusals.first (Refusals.sameSizeChecks uneven wall 6 35)
+    ∷ Refusals.first (Refusals.roundChecks uneven (3060 ∷ 0 ∷ []) 2 2)
+    ∷ Refusals.first (Refusals.roundChecks uneven (3061 ∷ 0 ∷ []) 1 2)
+    ∷ Refusals.first (Refusals.roundChecks uneven (3061 ∷ 0 ∷ []) 2 1)
+    ∷ Refusals.first (Refusals.roundChecks uneven (3061 ∷ 0 ∷ []) 2 2)
+    ∷ Refusals.first (Refusals.sameSizeChecks uneven wall 6 6 36)
+    ∷ Refusals.first (Refusals.sameSizeChecks uneven wall 5 6 35)
+    ∷ Refusals.first (Refusals.sameSizeChecks uneven wall 6 5 35)
+    ∷ Refusals.first (Refusals.sameSizeChecks uneven wall 6 6 35)
     -- difference: A's numbers before B's, the grown sizes 18 and 20
     ∷ Refusals.first (Refusals.differenceChecks uneven other wall 6 76)
     ∷ Refusals.first (Refusals.differenceChecks (recipeOf (0 ∷ []) []) (recipeOf (twos 49) []) wall 6 76)
@@ -219,8 +233,8 @@ pub answers :
     ∷ 0 ∷ 7 ∷ 8
     ∷ 0 ∷ 7 ∷ 8 ∷ 0 ∷ 7 ∷ 4 ∷ 16
     ∷ 0 ∷ 7 ∷ 7 ∷ 7
-    ∷ 0 ∷ 7 ∷ 11
-    ∷ 0 ∷ 7 ∷ 8
+    ∷ 0 ∷ 7 ∷ 7 ∷ 11
+    ∷ 0 ∷ 7 ∷ 7 ∷ 8
     ∷ 0 ∷ 2 ∷ 1 ∷ 7 ∷ 8 ∷ 12 ∷ 13 ∷ 13
     ∷ 0 ∷ 15 ∷ 15
     ∷ 0 ∷ 2

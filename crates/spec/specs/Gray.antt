@@ -1,10 +1,10 @@
--- Document 01, "Greys, differences, readings".
+-- Document 01, "Greys, differences, readings", and document 02, S-2.
 use mathlib.Core.Bool.{cond}
 use mathlib.Core.List.{List, flatten, map}
 use Prim.Native.Nat.{ℕ, _+_, _-_, _*_, _/_}
 use lib.Dec.{leb}
 use lib.Ieee.{Float, binary64, div, ofInt}
-use lib.IntN.{ℤ, pos, negℤ}
+use lib.IntN.{ℤ, pos, negℤ, _-ℤ_}
 use Rattle.spec.specs.Words.{tab, total}
 use Rattle.spec.specs.Recipe.{Recipe, order, gain}
 use Rattle.spec.specs.Picture.{Picture, exact}
@@ -13,9 +13,16 @@ use Rattle.spec.specs.Picture.{Picture, exact}
 unfoldable pub gray : ℕ → ℕ → ℕ
 gray weight s = (s + weight / 2) / weight
 
--- the grey of each sum of a row
+-- S-2: the signed leftover, sum minus weight times grey.
+unfoldable pub leftover : ℕ → ℕ → ℤ
+leftover weight s = pos s -ℤ pos (weight * gray weight s)
+
+-- the grey of each sum of a row, and the leftover of each
 unfoldable pub grays : ℕ → List ℕ → List ℕ
 grays weight sums = map (gray weight) sums
+
+unfoldable pub leftovers : ℕ → List ℕ → List ℤ
+leftovers weight sums = map (leftover weight) sums
 
 -- f at each picture place (i, j), row by row
 unfoldable pub places {ℓ} : {A : Type ℓ} → Picture → (ℕ → ℕ → A) → List A
@@ -32,13 +39,16 @@ sameRow r j = j + order (r .columns) / 2
 unfoldable pub sameSum : Recipe → Picture → ℕ → ℕ → ℕ
 sameSum r p i j = exact r p (sameColumn r i) (sameRow r j)
 
--- the weight over which a grey and a quotient at a picture place are: the recipe's
+-- the weight over which a grey, its leftover and a quotient at a picture place are: the recipe's
 unfoldable pub placeWeight : Recipe → Picture → ℕ → ℕ → ℕ
 placeWeight r p i j = gain r
 
--- the grey that it has there
+-- the grey that it has there, and its leftover
 unfoldable pub sameGray : Recipe → Picture → ℕ → ℕ → ℕ
 sameGray r p i j = gray (placeWeight r p i j) (sameSum r p i j)
+
+unfoldable pub sameLeftover : Recipe → Picture → ℕ → ℕ → ℤ
+sameLeftover r p i j = leftover (placeWeight r p i j) (sameSum r p i j)
 
 -- m / d rounded to the nearest whole number, a half upwards
 unfoldable pub nearest : ℕ → ℕ → ℕ
@@ -63,9 +73,10 @@ ratio m d = div binary64 (float m) (float d)
 unfoldable pub sameQuotient : Recipe → Picture → ℕ → ℕ → Float
 sameQuotient r p i j = ratio (sameSum r p i j) (placeWeight r p i j)
 
--- Reading at one picture place, from the sum of the same-size blur: the grey, the exact sum, or the quotient sum / weight.
+-- Reading at one picture place, from the sum of the same-size blur: the grey with its leftover beside it, the exact sum, or the quotient
+-- sum / weight.
 pub data Reading : Type 0 where
-  grayReading : ℕ → Reading
+  grayReading : ℕ → ℤ → Reading
   sumReading : ℕ → Reading
   quotientReading : Float → Reading
 
@@ -75,7 +86,7 @@ pub data Choice : Type 0 where
 
 -- a sum over a weight, as it is chosen
 unfoldable pub expressed : Choice → ℕ → ℕ → Reading
-expressed asGray weight s = grayReading (gray weight s)
+expressed asGray weight s = grayReading (gray weight s) (leftover weight s)
 expressed asSum weight s = sumReading s
 expressed asQuotient weight s = quotientReading (ratio s weight)
 

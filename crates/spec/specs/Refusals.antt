@@ -206,16 +206,18 @@ directChecks r p rs cs out =
     pictureChecks r p
     ++ check (otherOutput rs (order (r .rows) + 1) || otherOutput cs (order (r .columns) + 1) || otherOutput out (fullSize r p)) 7 ∷ []
 
--- rounding: 1 to 4, 7, 11
-unfoldable pub roundChecks : Recipe → List ℕ → ℕ → List Check
-roundChecks r sums out =
-    recipeChecks r ++ check (otherOutput out (length sums)) 7 ∷ check (tooBright largestGray (gain r) sums) 11 ∷ []
+-- rounding: 1 to 4, 7, 11; the outputs for greys and for leftovers
+unfoldable pub roundChecks : Recipe → List ℕ → ℕ → ℕ → List Check
+roundChecks r sums out left =
+    recipeChecks r
+    ++ check (otherOutput out (length sums) || otherOutput left (length sums)) 7 ∷ check (tooBright largestGray (gain r) sums) 11 ∷ []
 
--- same-size blur: 1 to 8, with twice the grown size in work cells
-unfoldable pub sameSizeChecks : Recipe → Picture → ℕ → ℕ → List Check
-sameSizeChecks r p out cells =
+-- same-size blur: 1 to 8; the same two outputs, with twice the grown size in work cells
+unfoldable pub sameSizeChecks : Recipe → Picture → ℕ → ℕ → ℕ → List Check
+sameSizeChecks r p out left cells =
     pictureChecks r p
-    ++ check (otherOutput out (p .width * p .height)) 7 ∷ check (tooFewCells cells (2 * fullSize r p)) 8 ∷ []
+    ++ check (otherOutput out (p .width * p .height) || otherOutput left (p .width * p .height)) 7
+    ∷ check (tooFewCells cells (2 * fullSize r p)) 8 ∷ []
 
 -- difference: A's 1 to 4, B's 1 to 4, then 5, 6, 7, 8, 12, 13, with twice both grown sizes together in work cells
 unfoldable pub differenceChecks : Recipe → Recipe → Picture → ℕ → ℕ → List Check

@@ -1,6 +1,6 @@
-//! The tables of the same-size blur, the difference and the readings.
+//! The tables of rounding, the same-size blur, the difference and the readings.
 
-use crate::gray_work::{Blur, Difference};
+use crate::gray_work::{Blur, Difference, Rounding};
 use crate::timing::alternate;
 use crate::work::Work;
 use crate::{greys, RECIPES, SIDE};
@@ -37,8 +37,14 @@ pub fn same_size() {
     println!("| Recipe | Call | Library, ms | Rust, ms | Library / Rust |");
     println!("|---|---|---|---|---|");
     for (name, rows, columns) in RECIPES {
+        let work = Rounding::new(rows, columns, SIDE);
+        let agree = |a: &Rounding, b: &Rounding| a.out == b.out && a.leftovers == b.leftovers;
+        let sides = [Rounding::by_library, greys::round_row];
+        line([name, "rounding"], work, sides, agree);
+    }
+    for (name, rows, columns) in RECIPES {
         let work = Blur::new(rows, columns, SIDE);
-        let agree = |a: &Blur, b: &Blur| a.out == b.out;
+        let agree = |a: &Blur, b: &Blur| a.out == b.out && a.leftovers == b.leftovers;
         let sides = [Blur::by_library, greys::blur];
         line([name, "same-size blur"], work, sides, agree);
     }
@@ -54,20 +60,20 @@ pub fn same_size() {
 const MARK: u64 = 0xA5A5_A5A5_A5A5_A5A5;
 
 /// The bytes that the blur writes: the cells of the one pass, one row of sums
-/// and the output. No more cells may have changed than those and a row.
+/// and both outputs. No more cells may have changed than those and a row.
 fn blur_bytes(work: &mut Blur) -> usize {
     work.cells.fill(MARK);
     work.by_library();
     let changed = work.cells.iter().filter(|&&cell| cell != MARK).count();
     let sums = work.recipe.needed + work.recipe.full_width;
     assert!(changed <= sums, "{changed} cells of the blur have changed");
-    8 * sums + work.out.len()
+    8 * sums + work.out.len() + 8 * work.leftovers.len()
 }
 
 /// The blur beside pass by pass: times, and the bytes that are written.
 pub fn memory() {
-    println!("Bytes written: by the blur the cells of the one pass, one row of sums and the");
-    println!("output, by pass by pass two buffers of the grown size.");
+    println!("Bytes written: by the blur the cells of the one pass, one row of sums and both");
+    println!("outputs, by pass by pass two buffers of the grown size.");
     println!();
     println!("| Recipe | Blur, ms | Pass by pass, ms | Blur, bytes | Pass by pass, bytes |");
     println!("|---|---|---|---|---|");

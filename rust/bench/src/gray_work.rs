@@ -1,5 +1,6 @@
-//! A square picture with one recipe or two and the buffers of the same-size
-//! blur, the difference and the readings, and the library's calls on them.
+//! A square picture or a row of sums with one recipe or two and the buffers of
+//! rounding, the same-size blur, the difference and the readings, and the
+//! library's calls on them.
 
 use crate::work::{cascade, noise, reach};
 use bore::{Filter, Moments, Quantity, Sample};
@@ -43,6 +44,37 @@ impl Recipe {
     }
 }
 
+/// A recipe and a row of sums with the outputs of rounding.
+#[derive(Clone)]
+pub struct Rounding {
+    pub recipe: Recipe,
+    pub sums: Vec<u64>,
+    pub out: Vec<u8>,
+    pub leftovers: Vec<i64>,
+}
+
+impl Rounding {
+    /// As many sums as a picture of this side has pixels, spread over all that
+    /// are accepted.
+    pub fn new(rows: &[u8], columns: &[u8], side: usize) -> Rounding {
+        let recipe = Recipe::new(rows, columns, side);
+        let (size, most) = (side * side, 255 * recipe.weight);
+        let spread = |k: usize| (k as u64).wrapping_mul(0x9E37_79B9_7F4A_7C15) % (most + 1);
+        Rounding {
+            recipe,
+            sums: (0..size).map(spread).collect(),
+            out: vec![0; size],
+            leftovers: vec![0; size],
+        }
+    }
+
+    pub fn by_library(&mut self) {
+        let Rounding { recipe, sums, .. } = self;
+        let number = bore::round(&recipe.filter, sums, &mut self.out, &mut self.leftovers);
+        assert_eq!(number, 0, "the rounding is accepted");
+    }
+}
+
 /// A recipe and a picture with the buffers of a blur.
 #[derive(Clone)]
 pub struct Blur {
@@ -50,6 +82,7 @@ pub struct Blur {
     pub side: usize,
     pub pixels: Vec<u8>,
     pub out: Vec<u8>,
+    pub leftovers: Vec<i64>,
     pub cells: Vec<u64>,
 }
 
@@ -60,6 +93,7 @@ impl Blur {
             side,
             pixels: noise(side * side),
             out: vec![0; side * side],
+            leftovers: vec![0; side * side],
             cells: vec![0; 2 * recipe.full_size],
             recipe,
         }
@@ -72,6 +106,7 @@ impl Blur {
             self.side,
             &self.pixels,
             &mut self.out,
+            &mut self.leftovers,
             &mut self.cells,
         );
         assert_eq!(number, 0, "the blur is accepted");
@@ -90,7 +125,7 @@ impl Blur {
             &mut sample,
         );
         match (number, sample) {
-            (0, Sample::Gray(gray)) => gray,
+            (0, Sample::Gray { gray, .. }) => gray,
             other => panic!("{other:?} in place of a grey"),
         }
     }

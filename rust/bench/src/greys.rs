@@ -1,7 +1,8 @@
-//! The same-size blur and the difference in safe Rust: the one pass goes row by
-//! row through one row of sums, whose middle part is rounded into the output.
+//! Rounding, the same-size blur and the difference in safe Rust: the one pass
+//! goes row by row through one row of sums, whose middle part is rounded into the
+//! output, or for a blur into both.
 
-use crate::gray_work::{Blur, Difference, Recipe};
+use crate::gray_work::{Blur, Difference, Recipe, Rounding};
 use crate::stages::{next_row, MOST_WIDTH};
 use crate::work::reach;
 
@@ -86,18 +87,41 @@ impl Divisor {
     }
 }
 
-fn round_each(sums: &[u64], out: &mut [u8], rounded: impl Fn(u64) -> u64) {
-    for (out, &sum) in out.iter_mut().zip(sums) {
-        *out = rounded(sum) as u8;
+/// Each sum over the weight, and what is left of it without so many weights.
+fn round_each(
+    sums: &[u64],
+    (out, leftovers): (&mut [u8], &mut [i64]),
+    rounded: impl Fn(u64) -> u64,
+    weights: impl Fn(u64) -> u64,
+) {
+    for ((out, leftover), &sum) in out.iter_mut().zip(leftovers).zip(sums) {
+        let gray = rounded(sum);
+        *out = gray as u8;
+        *leftover = sum as i64 - weights(gray) as i64;
     }
 }
 
-/// A weight with a single bit set is divided by a shift.
-fn round(by: &Divisor, sums: &[u64], out: &mut [u8]) {
+/// A weight with a single bit set is divided by a shift, and multiplied by one.
+fn round(by: &Divisor, sums: &[u64], outputs: (&mut [u8], &mut [i64])) {
     match by.shift() {
-        Some(shift) => round_each(sums, out, |sum| by.by_shift(shift, sum)),
-        None => round_each(sums, out, |sum| by.by_reciprocal(sum)),
+        Some(shift) => {
+            let rounded = |sum| by.by_shift(shift, sum);
+            round_each(sums, outputs, rounded, |gray| gray << shift)
+        }
+        None => {
+            let rounded = |sum| by.by_reciprocal(sum);
+            round_each(sums, outputs, rounded, |gray| gray * by.weight)
+        }
     }
+}
+
+/// All sums are looked at before the first is rounded. No branch hangs on a sum.
+pub fn round_row(work: &mut Rounding) {
+    let most = 255 * work.recipe.weight;
+    let above = |found: bool, &sum: &u64| found | (sum > most);
+    assert!(!work.sums.iter().fold(false, above), "a sum is too bright");
+    let by = Divisor::new(work.recipe.weight);
+    round(&by, &work.sums, (&mut work.out, &mut work.leftovers));
 }
 
 pub fn blur(work: &mut Blur) {
@@ -105,8 +129,9 @@ pub fn blur(work: &mut Blur) {
     let cells = &mut work.cells[..recipe.needed];
     let mut pass = Pass::new(recipe, &work.pixels, work.side, cells);
     let by = Divisor::new(recipe.weight);
-    for out in work.out.chunks_exact_mut(work.side) {
-        round(&by, pass.next(), out);
+    let rows = work.out.chunks_exact_mut(work.side);
+    for outputs in rows.zip(work.leftovers.chunks_exact_mut(work.side)) {
+        round(&by, pass.next(), outputs);
     }
 }
 

@@ -1,5 +1,5 @@
 //! Safe wrapper over the static library of the bore wall picture filter of
-//! document 01, with the fading ladder of document 02.
+//! document 01, with the fading ladder and the leftovers of document 02.
 //!
 //! Every call returns the papers' refusal number, 0 where it is accepted, and
 //! writes its values to what the caller lends; `refusal_text` gives the words of
@@ -108,11 +108,11 @@ pub enum Quantity {
     Mean,
 }
 
-/// The value that a reading gives: the grey, the exact sum, or the quotient of
-/// sum and weight.
+/// The value that a reading gives: the grey with its leftover, the exact sum, or
+/// the quotient of sum and weight.
 #[derive(Clone, Copy, Debug, PartialEq)]
 pub enum Sample {
-    Gray(u8),
+    Gray { gray: u8, leftover: i64 },
     Sum(u64),
     Mean(f64),
 }
@@ -129,15 +129,18 @@ pub fn sample(
     quantity: Quantity,
     sample: &mut Sample,
 ) -> u8 {
-    let (mut gray, mut sum, mut mean) = (0, 0, 0.0);
+    let (mut gray, mut leftover, mut sum, mut mean) = (0, 0, 0, 0.0);
     let number = match quantity {
-        Quantity::Gray => sample_gray(filter, width, height, pixels, place, &mut gray),
+        Quantity::Gray => {
+            let (gray, leftover) = (&mut gray, &mut leftover);
+            sample_gray(filter, width, height, pixels, place, gray, leftover)
+        }
         Quantity::Sum => sample_sum(filter, width, height, pixels, place, &mut sum),
         Quantity::Mean => sample_mean(filter, width, height, pixels, place, &mut mean),
     };
     if number == 0 {
         *sample = match quantity {
-            Quantity::Gray => Sample::Gray(gray),
+            Quantity::Gray => Sample::Gray { gray, leftover },
             Quantity::Sum => Sample::Sum(sum),
             Quantity::Mean => Sample::Mean(mean),
         };

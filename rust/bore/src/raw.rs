@@ -168,6 +168,8 @@ unsafe extern "C" {
         sums_len: usize,
         out: *mut u8,
         out_len: usize,
+        leftovers: *mut i64,
+        leftovers_len: usize,
     ) -> u8;
 
     #[must_use = "a number other than 0 is a refusal"]
@@ -179,6 +181,8 @@ unsafe extern "C" {
         pixels_len: usize,
         out: *mut u8,
         out_len: usize,
+        leftovers: *mut i64,
+        leftovers_len: usize,
         cells: *mut u64,
         cells_len: usize,
     ) -> u8;
@@ -207,6 +211,7 @@ unsafe extern "C" {
         column: usize,
         row: usize,
         gray: &mut u8,
+        leftover: &mut i64,
     ) -> u8;
 
     #[must_use = "a number other than 0 is a refusal"]
@@ -508,12 +513,13 @@ pub fn drain(state: &mut State, out: &mut [u64], cells: &mut [u64], count: &mut 
     }
 }
 
-/// The greys of a row of sums (document 01: rounding), in an output of the same
-/// length; refusals 1 to 4, then 7, 11.
+/// The greys of a row of sums (document 01: rounding) and their leftovers, sum
+/// less weight times grey (document 02), in two outputs of the same length;
+/// refusals 1 to 4, then 7, 11.
 #[must_use = "a number other than 0 is a refusal"]
-pub fn round(filter: &Filter, sums: &[u64], out: &mut [u8]) -> u8 {
+pub fn round(filter: &Filter, sums: &[u64], out: &mut [u8], leftovers: &mut [i64]) -> u8 {
     // SAFETY: each pointer and the length after it are those of one slice; the
-    // one that is written is lent to this call alone.
+    // two that are written are lent to this call alone.
     unsafe {
         bore_round(
             filter,
@@ -521,13 +527,15 @@ pub fn round(filter: &Filter, sums: &[u64], out: &mut [u8]) -> u8 {
             sums.len(),
             out.as_mut_ptr(),
             out.len(),
+            leftovers.as_mut_ptr(),
+            leftovers.len(),
         )
     }
 }
 
-/// The greys of the picture's own places (document 01: the same-size blur), in
-/// an output of exactly the picture's size and with work cells of at least twice
-/// the grown size; refusals 1 to 8.
+/// The greys of the picture's own places (document 01: the same-size blur) and
+/// their leftovers, in two outputs of exactly the picture's size and with work
+/// cells of at least twice the grown size; refusals 1 to 8.
 #[must_use = "a number other than 0 is a refusal"]
 pub fn blur(
     filter: &Filter,
@@ -535,10 +543,11 @@ pub fn blur(
     height: usize,
     pixels: &[u8],
     out: &mut [u8],
+    leftovers: &mut [i64],
     cells: &mut [u64],
 ) -> u8 {
     // SAFETY: each pointer and the length after it are those of one slice; the
-    // two that are written are lent to this call alone.
+    // three that are written are lent to this call alone.
     unsafe {
         bore_blur(
             filter,
@@ -548,6 +557,8 @@ pub fn blur(
             pixels.len(),
             out.as_mut_ptr(),
             out.len(),
+            leftovers.as_mut_ptr(),
+            leftovers.len(),
             cells.as_mut_ptr(),
             cells.len(),
         )
@@ -586,7 +597,7 @@ pub fn difference(
     }
 }
 
-/// The reading of the grey alone; refusals as for `sample`.
+/// The reading of the grey alone, with its leftover; refusals as for `sample`.
 #[must_use = "a number other than 0 is a refusal"]
 pub fn sample_gray(
     filter: &Filter,
@@ -595,10 +606,15 @@ pub fn sample_gray(
     pixels: &[u8],
     (column, row): (usize, usize),
     gray: &mut u8,
+    leftover: &mut i64,
 ) -> u8 {
     let (start, len) = (pixels.as_ptr(), pixels.len());
     // SAFETY: the pointer and the length are those of one slice.
-    unsafe { bore_sample_gray(filter, width, height, start, len, column, row, gray) }
+    unsafe {
+        bore_sample_gray(
+            filter, width, height, start, len, column, row, gray, leftover,
+        )
+    }
 }
 
 /// The reading of the exact sum alone; refusals as for `sample`.

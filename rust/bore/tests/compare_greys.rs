@@ -15,8 +15,8 @@ use reference::{Choice, Reading, Recipe, LARGEST_GREY};
 fn rounding(seed: u64) -> u8 {
     let (case, mut random) = picture_case(seed);
     let sums = any_sums(&mut random, weight(&case.recipe()));
-    let length = any_length(&mut random, sums.len());
-    agree_greys::round(&case, &mut random, &sums, length)
+    let lengths = [(); 2].map(|_| any_length(&mut random, sums.len()));
+    agree_greys::round(&case, &mut random, &sums, lengths)
 }
 
 #[test]
@@ -26,9 +26,9 @@ fn rounding_agrees() {
     });
 }
 
-/// The case of a seed with a picture, and lengths of output and cells of which
-/// most are right.
-fn with_lengths(seed: u64) -> (Case, Random, Picture, [usize; 2]) {
+/// The case of a seed with a picture, and lengths of both outputs and of the
+/// cells, of which most are right.
+fn with_lengths(seed: u64) -> (Case, Random, Picture, [usize; 3]) {
     let (case, mut random, mut picture) = pictured(seed);
     repaint(&mut random, &mut picture.pixels);
     let needed = reference::same_size_cells(&case.recipe(), picture.width, picture.height);
@@ -36,9 +36,9 @@ fn with_lengths(seed: u64) -> (Case, Random, Picture, [usize; 2]) {
         Ok(needed) => [picture.width * picture.height, needed],
         Err(_) => [(); 2].map(|_| random.between(0, 20)),
     };
-    let out = any_length(&mut random, right[0]);
+    let [grays, leftovers] = [(); 2].map(|_| any_length(&mut random, right[0]));
     let cells = any_cells(&mut random, right[1]);
-    (case, random, picture, [out, cells])
+    (case, random, picture, [grays, leftovers, cells])
 }
 
 fn blur(seed: u64) -> u8 {
@@ -64,7 +64,8 @@ fn larger_pictures_agree() {
         repaint(&mut random, &mut picture.pixels);
         let (width, height) = (picture.width, picture.height);
         let needed = reference::same_size_cells(&case.recipe(), width, height);
-        let lengths = [width * height, needed.unwrap_or(0)];
+        let size = width * height;
+        let lengths = [size, size, needed.unwrap_or(0)];
         let number = agree_greys::blur(&case, &mut random, &picture, lengths);
         assert_eq!(number, 0, "{width} by {height}, {case:?}");
     });
@@ -83,11 +84,12 @@ fn places_of_larger_pictures_agree() {
         let mut picture = larger_picture(&mut random);
         repaint(&mut random, &mut picture.pixels);
         let (w, h) = (picture.width, picture.height);
-        let grays = accepted::blur(&filter, w, h, &picture.pixels);
+        let (grays, leftovers) = accepted::blur(&filter, w, h, &picture.pixels);
         for place in some_places(&mut random, &recipe, &picture) {
             let pixels = &picture.pixels;
             let expected = reference::reading(&recipe, w, h, pixels, place, Choice::Grey);
-            let found = Ok(Reading::Grey(grays[place.1 * w + place.0]));
+            let at = place.1 * w + place.0;
+            let found = Ok(Reading::Grey(grays[at], leftovers[at]));
             let note = format_args!("seed {seed}, {place:?} of {w} by {h}, {recipe:?}");
             assert_eq!(found, expected, "{note}");
         }
@@ -152,7 +154,7 @@ fn random_pictures_meet_every_number_and_kind() {
         if number > 0 {
             continue;
         }
-        let (case, _, picture, [_, cells]) = with_lengths(seed);
+        let (case, _, picture, [_, _, cells]) = with_lengths(seed);
         let recipe = case.recipe();
         count(&mut weights, kinds_of_weight(&recipe));
         count(&mut pictures, kinds_of_picture(&picture.pixels));

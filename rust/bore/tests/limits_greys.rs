@@ -39,6 +39,21 @@ const WEIGHTS: [(&[u8], &[u8], u64); 15] = [
     (&[2; 22], &[2; 22], 1 << 44),
 ];
 
+/// The lengths of both outputs: the right one, or a wrong one for the first, for
+/// the second or for both.
+fn out_lengths<const N: usize>(
+    random: &mut Random,
+    output: bool,
+    wrong: [usize; N],
+    right: usize,
+) -> [usize; 2] {
+    let [first, second] = [(); 2].map(|_| random.one_of(&wrong));
+    match output {
+        true => random.one_of(&[[first, right], [right, second], [first, second]]),
+        false => [right; 2],
+    }
+}
+
 #[test]
 fn rounding_refuses_in_order() {
     let mut random = Random::new(1);
@@ -63,8 +78,11 @@ fn rounding_refuses_in_order() {
         (&[u64::MAX; 3], 3, 11),
         (&[u64::MAX; 3], 4, 7),
     ] {
-        let found = round(&case, &mut random, sums, out);
-        assert_eq!(found, number, "{sums:?} to length {out}");
+        let right = sums.len();
+        for lengths in [[out, out], [out, right], [right, out]] {
+            let found = round(&case, &mut random, sums, lengths);
+            assert_eq!(found, number, "{sums:?} to lengths {lengths:?}");
+        }
     }
 }
 
@@ -81,15 +99,16 @@ fn the_lowest_refusal_of_rounding_wins() {
             let case = Case::fixed(&mut random, filter);
             // All widths of an accepted filter are 1 here.
             let sums = [7, if bright { 256 } else { 255 }];
-            let out = if output { random.one_of(&[0, 1, 3]) } else { 2 };
-            let found = round(&case, &mut random, &sums, out);
+            let lengths = out_lengths(&mut random, output, [0, 1, 3], 2);
+            let found = round(&case, &mut random, &sums, lengths);
             assert_eq!(found, first(wished, [1, 2, 3, 4, 7, 11]), "{case:?}");
         }
     }
 }
 
 /// The sums about every half: weight / 2 is half a weight where the weight is
-/// even, and then rounds upwards; where it is odd, it is below the half.
+/// even, and then rounds upwards; where it is odd, it is below the half. The
+/// leftovers about it are the largest and the least.
 #[test]
 fn rounding_turns_at_the_half() {
     let mut random = Random::new(3);
@@ -103,9 +122,58 @@ fn rounding_turns_at_the_half() {
             let half = k * weight + weight / 2;
             let sums = [half - 1, half, half + 1];
             let at_half = if weight % 2 == 0 { k + 1 } else { k };
-            let grays = accepted::round(&filter, &sums);
+            let (grays, leftovers) = accepted::round(&filter, &sums);
             assert_eq!(grays, [k, at_half, k + 1], "{sums:?}, weight {weight}");
-            assert_eq!(round(&case, &mut random, &sums, 3), 0);
+            let down = weight as i64 / 2;
+            let expected = match weight % 2 {
+                0 => [down - 1, -down, 1 - down],
+                _ => [down - 1, down, -down],
+            };
+            assert_eq!(leftovers, expected, "{sums:?}, weight {weight}");
+            assert_eq!(round(&case, &mut random, &sums, [3; 2]), 0);
+        }
+    }
+}
+
+/// Every sum of two greys at each of the smaller weights: the leftovers run from
+/// minus half the weight to the weight less 1 and less half the weight, both
+/// halves downwards, and back to 0 at each whole grey.
+#[test]
+fn leftovers_run_from_half_to_half() {
+    let mut random = Random::new(9);
+    for width in 1..=255 {
+        let filter = filter(&[width], &[]);
+        let case = Case::fixed(&mut random, filter);
+        let weight = i64::from(width);
+        let sums: Vec<u64> = (0..2 * u64::from(width)).collect();
+        let up = weight - weight / 2;
+        let once: Vec<i64> = (0..up).chain(up - weight..0).collect();
+        let (_, leftovers) = accepted::round(&filter, &sums);
+        assert_eq!(leftovers, [&once[..], &once[..]].concat(), "weight {width}");
+        assert_eq!(once.iter().min(), Some(&-(weight / 2)), "weight {width}");
+        let most = weight - 1 - weight / 2;
+        assert_eq!(once.iter().max(), Some(&most), "weight {width}");
+        assert_eq!(round(&case, &mut random, &sums, [sums.len(); 2]), 0);
+    }
+}
+
+/// A sum is the weight times its grey and the leftover, which is at most half
+/// the weight in size, at every weight.
+#[test]
+fn greys_and_leftovers_make_the_sum() {
+    let mut random = Random::new(10);
+    for (rows, columns, weight) in WEIGHTS {
+        let filter = filter(rows, columns);
+        let sums: Vec<u64> = (0..5000)
+            .map(|_| random.word() % (255 * weight + 1))
+            .collect();
+        let (grays, leftovers) = accepted::round(&filter, &sums);
+        let half = weight as i64 / 2;
+        for ((&sum, &gray), &leftover) in sums.iter().zip(&grays).zip(&leftovers) {
+            let whole = (weight * gray) as i64;
+            assert_eq!(whole + leftover, sum as i64, "weight {weight}");
+            let range = -half..=weight as i64 - 1 - half;
+            assert!(range.contains(&leftover), "{leftover}, weight {weight}");
         }
     }
 }
@@ -120,13 +188,15 @@ fn rounding_takes_sums_up_to_white() {
         assert_eq!(accepted::moments(&filter).gain, weight, "{filter:?}");
         let whole: Vec<u64> = (0..=255).map(|k| k * weight).collect();
         let every: Vec<u64> = (0..=255).collect();
-        assert_eq!(accepted::round(&filter, &whole), every, "weight {weight}");
+        let (grays, leftovers) = accepted::round(&filter, &whole);
+        assert_eq!(grays, every, "weight {weight}");
+        assert_eq!(leftovers, [0; 256], "weight {weight}");
         let most = 255 * weight;
         for bright in [most + 1, 256 * weight, 1 << 52, 1 << 63, u64::MAX] {
             for place in [0, 100, 255] {
                 let mut sums = whole.clone();
                 sums[place] = bright;
-                assert_eq!(round(&case, &mut random, &sums, 256), 11, "{bright}");
+                assert_eq!(round(&case, &mut random, &sums, [256; 2]), 11, "{bright}");
             }
         }
     }
@@ -140,10 +210,17 @@ fn rounding_takes_any_length() {
         let case = Case::fixed(&mut random, filter(rows, columns));
         for length in (1..=70).chain([255, 256, 1279, 1280, 4096, 65_537, 1 << 20]) {
             let sums: Vec<u64> = (0..length).map(|_| random.word() % (255 * 15)).collect();
-            for out in [length - 1, length, length + 1] {
-                let found = round(&case, &mut random, &sums, out);
-                let number = if out == length { 0 } else { 7 };
-                assert_eq!(found, number, "{length} sums, length {out}");
+            for lengths in [
+                [length, length],
+                [length - 1, length],
+                [length + 1, length],
+                [length, length - 1],
+                [length, length + 1],
+                [length - 1, length + 1],
+            ] {
+                let found = round(&case, &mut random, &sums, lengths);
+                let number = if lengths == [length; 2] { 0 } else { 7 };
+                assert_eq!(found, number, "{length} sums, lengths {lengths:?}");
             }
         }
     }
@@ -172,11 +249,14 @@ fn blur_refuses_in_order() {
         ([0, 0, 0], 6),
     ] {
         let picture = Picture::random(&mut random, 5, 3, pixels);
-        let found = blur(&case, &mut random, &picture, [out, cells]);
-        assert_eq!(found, number, "{pixels} pixels, lengths {out}, {cells}");
+        for [grays, leftovers] in [[out, out], [out, 15], [15, out]] {
+            let found = blur(&case, &mut random, &picture, [grays, leftovers, cells]);
+            let note = format_args!("{pixels} pixels, lengths {grays}, {leftovers}, {cells}");
+            assert_eq!(found, number, "{note}");
+        }
     }
     for (width, height) in REFUSED {
-        for lengths in [[15, 80], [0, 0]] {
+        for lengths in [[15, 15, 80], [0, 0, 0]] {
             for pixels in [0, 1, 15] {
                 let picture = Picture::random(&mut random, width, height, pixels);
                 let found = blur(&case, &mut random, &picture, lengths);
@@ -200,9 +280,9 @@ fn the_lowest_refusal_of_the_blur_wins() {
             // All widths of an accepted filter are 1 here, so nothing grows.
             let width = if side { random.one_of(&[0, 1025]) } else { 4 };
             let picture = Picture::random(&mut random, width, 1, if pixels { 3 } else { 4 });
-            let out = if output { random.one_of(&[3, 5]) } else { 4 };
+            let [grays, leftovers] = out_lengths(&mut random, output, [3, 5], 4);
             let cells = if few { random.between(0, 7) } else { 8 };
-            let found = blur(&case, &mut random, &picture, [out, cells]);
+            let found = blur(&case, &mut random, &picture, [grays, leftovers, cells]);
             let number = first(wished, [1, 2, 3, 4, 5, 6, 7, 8]);
             assert_eq!(found, number, "{case:?}");
         }
@@ -235,7 +315,7 @@ fn just_enough_cells() {
             let needed = 2 * (width + rx) * (height + ry);
             let picture = Picture::random(&mut random, width, height, size);
             for (cells, number) in [(needed, 0), (needed + 1, 0), (needed - 1, 8)] {
-                let found = blur(&case, &mut random, &picture, [size, cells]);
+                let found = blur(&case, &mut random, &picture, [size, size, cells]);
                 assert_eq!(
                     found, number,
                     "{cells} cells, {width} by {height}, {case:?}"
@@ -261,8 +341,8 @@ fn where_one_pixel_goes() {
         (&[2; 5], [6, 31, 63, 63, 31]),
     ] {
         let line = [0, 0, 200, 0, 0];
-        assert_eq!(accepted::blur(&filter(list, &[]), 5, 1, &line), grays);
-        assert_eq!(accepted::blur(&filter(&[], list), 1, 5, &line), grays);
+        assert_eq!(accepted::blur(&filter(list, &[]), 5, 1, &line).0, grays);
+        assert_eq!(accepted::blur(&filter(&[], list), 1, 5, &line).0, grays);
     }
 }
 
@@ -275,14 +355,15 @@ fn white_and_black_pictures() {
         let [rx, ry] = [rows, columns].map(|list| reference::reach(&boxes(list)));
         let (width, height) = (rx + 3, ry + 3);
         let size = width * height;
-        let grays = accepted::blur(&filter, width, height, &vec![255; size]);
+        let (grays, leftovers) = accepted::blur(&filter, width, height, &vec![255; size]);
         for row in ry.div_ceil(2)..ry.div_ceil(2) + 3 {
             for column in rx.div_ceil(2)..rx.div_ceil(2) + 3 {
-                let gray = grays[row * width + column];
-                assert_eq!(gray, 255, "column {column}, row {row}, {filter:?}");
+                let at = row * width + column;
+                let note = format_args!("column {column}, row {row}, {filter:?}");
+                assert_eq!((grays[at], leftovers[at]), (255, 0), "{note}");
             }
         }
         let black = accepted::blur(&filter, width, height, &vec![0; size]);
-        assert_eq!(black, vec![0; size], "{filter:?}");
+        assert_eq!(black, (vec![0; size], vec![0; size]), "{filter:?}");
     }
 }

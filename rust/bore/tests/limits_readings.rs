@@ -110,15 +110,43 @@ fn the_largest_sums() {
         let white = vec![255; (rx + 1) * (ry + 1)];
         let place = (rx.div_ceil(2), ry.div_ceil(2));
         let expected = [
-            Sample::Gray(255),
+            Sample::Gray {
+                gray: 255,
+                leftover: 0,
+            },
             Sample::Sum(255 * weight),
             Sample::Mean(255.0),
         ];
         assert_eq!(read(&filter, rx + 1, &white, place), expected, "{filter:?}");
         let black = vec![0; white.len()];
         let found = read(&filter, rx + 1, &black, place);
-        let expected = [Sample::Gray(0), Sample::Sum(0), Sample::Mean(0.0)];
+        let none = Sample::Gray {
+            gray: 0,
+            leftover: 0,
+        };
+        let expected = [none, Sample::Sum(0), Sample::Mean(0.0)];
         assert_eq!(found, expected, "{filter:?}");
+    }
+}
+
+/// The leftovers about a half, at an even weight and at an odd one.
+#[test]
+fn leftovers_beside_the_grey() {
+    for (list, pixel, gray, leftover) in [
+        (&[4][..], 1, 0, 1),
+        (&[4], 2, 1, -2),
+        (&[4], 3, 1, -1),
+        (&[4], 4, 1, 0),
+        (&[3], 1, 0, 1),
+        (&[3], 2, 1, -1),
+        (&[5], 2, 0, 2),
+        (&[5], 3, 1, -2),
+        (&[255], 127, 0, 127),
+        (&[255], 128, 1, -127),
+    ] {
+        let expected = Sample::Gray { gray, leftover };
+        assert_eq!(read(&filter(list, &[]), 1, &[pixel], (0, 0))[0], expected);
+        assert_eq!(read(&filter(&[], list), 1, &[pixel], (0, 0))[0], expected);
     }
 }
 
@@ -149,10 +177,12 @@ fn readings_are_those_of_the_blur() {
     for (rows, columns) in [(&[2, 3][..], &[2, 2][..]), (&[4], &[5, 2]), (&[9], &[])] {
         let filter = filter(rows, columns);
         let pixels = random.pixels(7 * 6);
-        let grays = accepted::blur(&filter, 7, 6, &pixels);
-        for (k, &gray) in grays.iter().enumerate() {
+        let (grays, leftovers) = accepted::blur(&filter, 7, 6, &pixels);
+        for (k, (&gray, &leftover)) in grays.iter().zip(&leftovers).enumerate() {
             let found = read(&filter, 7, &pixels, (k % 7, k / 7))[0];
-            assert_eq!(found, Sample::Gray(gray as u8), "place {k}, {filter:?}");
+            let gray = gray as u8;
+            let expected = Sample::Gray { gray, leftover };
+            assert_eq!(found, expected, "place {k}, {filter:?}");
         }
     }
 }

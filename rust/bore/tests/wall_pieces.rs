@@ -203,13 +203,20 @@ fn three_by_three_of_a_hundred() {
 fn greys_of_three_by_three_of_a_hundred() {
     let twos = filter(&[2, 2], &[2, 2]);
     let pixels = [100; 9];
-    let grays = blur(&twos, 3, 3, &pixels);
+    let (grays, leftovers) = blur(&twos, 3, 3, &pixels);
     assert_eq!(grays, [56, 75, 56, 75, 100, 75, 56, 75, 56]);
+    assert_eq!(leftovers, [4, 0, 4, 0, 0, 0, 4, 0, 4]);
     let read = |place, quantity| sample(&twos, 3, 3, &pixels, place, quantity);
     assert_eq!(read((0, 0), Quantity::Sum), Sample::Sum(900));
     assert_eq!(read((2, 2), Quantity::Sum), Sample::Sum(900));
-    for (place, gray) in [((0, 0), 56), ((1, 0), 75), ((0, 1), 75), ((1, 1), 100)] {
-        assert_eq!(read(place, Quantity::Gray), Sample::Gray(gray));
+    for (place, gray, leftover) in [
+        ((0, 0), 56, 4),
+        ((1, 0), 75, 0),
+        ((0, 1), 75, 0),
+        ((1, 1), 100, 0),
+    ] {
+        let expected = Sample::Gray { gray, leftover };
+        assert_eq!(read(place, Quantity::Gray), expected);
     }
 }
 
@@ -217,8 +224,9 @@ fn greys_of_three_by_three_of_a_hundred() {
 fn one_two_on_two_pixels() {
     assert_eq!(sums(&[2], &[], 2, 1, &[1, 0]), [1, 1, 0]);
     assert_eq!(sums(&[], &[2], 1, 2, &[1, 0]), [1, 1, 0]);
-    assert_eq!(blur(&filter(&[2], &[]), 2, 1, &[1, 0]), [1, 1]);
-    assert_eq!(blur(&filter(&[], &[2]), 1, 2, &[1, 0]), [1, 1]);
+    let halves = (vec![1, 1], vec![-1, -1]);
+    assert_eq!(blur(&filter(&[2], &[]), 2, 1, &[1, 0]), halves);
+    assert_eq!(blur(&filter(&[], &[2]), 1, 2, &[1, 0]), halves);
 }
 
 #[test]
@@ -236,7 +244,7 @@ fn difference_of_one_pixel() {
 #[test]
 fn blurs_are_not_rounded_before_the_difference() {
     let [a, b] = [filter(&[], &[]), filter(&[2, 2], &[])];
-    let [gray_a, gray_b] = [&a, &b].map(|filter| blur(filter, 1, 1, &[255])[0]);
+    let [gray_a, gray_b] = [&a, &b].map(|filter| blur(filter, 1, 1, &[255]).0[0]);
     assert_eq!(gray_a - gray_b, 127);
     assert_eq!(difference([&a, &b], 1, 1, &[255]), [128]);
 }
@@ -254,11 +262,11 @@ fn greys_are_rounded_once() {
     let mut values = vec![1];
     for n in [2, 2] {
         let boxed = sums(&[n], &[], values.len(), 1, &values);
-        values = round(&filter(&[n], &[]), &boxed);
+        values = round(&filter(&[n], &[]), &boxed).0;
     }
     assert_eq!(values, [1, 1, 1]);
     let grown = sums(&[2, 2], &[], 1, 1, &[1]);
-    assert_eq!(round(&filter(&[2, 2], &[]), &grown), [0, 1, 0]);
+    assert_eq!(round(&filter(&[2, 2], &[]), &grown).0, [0, 1, 0]);
 }
 
 /// The black places of a row are through before the next row starts: 1 1 / 1 1
@@ -297,11 +305,11 @@ fn the_largest_sum() {
     let row = sums(&[2; 44], &[], 45, 1, &[255; 45]);
     assert_eq!(row[44], 255 << 44);
     let twos = filter(&[2; 22], &[2; 22]);
-    assert_eq!(
-        round(&twos, &[255 << 44, 1 << 43, (1 << 43) - 1]),
-        [255, 1, 0]
-    );
-    assert_eq!(bore::round(&twos, &[(255 << 44) + 1], &mut [7]), 11);
+    let (grays, leftovers) = round(&twos, &[255 << 44, 1 << 43, (1 << 43) - 1]);
+    assert_eq!(grays, [255, 1, 0]);
+    assert_eq!(leftovers, [0, -(1 << 43), (1 << 43) - 1]);
+    let bright = [(255 << 44) + 1];
+    assert_eq!(bore::round(&twos, &bright, &mut [7], &mut [7]), 11);
 }
 
 #[test]

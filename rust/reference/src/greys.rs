@@ -1,5 +1,5 @@
-//! Rounding to greys, the same-size blur, the difference of two recipes and
-//! the reading at one place.
+//! Rounding to greys and what it leaves over, the same-size blur, the difference
+//! of two recipes and the reading at one place.
 
 use crate::picture::{check_picture, grown_size, Picture, LARGEST_GREY};
 use crate::recipe::{accepted_weight, check, coefficients_of, reach, weight, Recipe, MOST_WEIGHT};
@@ -14,19 +14,39 @@ pub fn grey(sum: u64, weight: u64) -> u64 {
     (sum + weight / 2) / weight
 }
 
-/// The greys of a row of sums: refusals 1 to 4, then 7 for an output of another
-/// length than the row, then 11 for a sum above the largest grey times the
-/// weight.
-pub fn round_row(recipe: &Recipe, sums: &[u64], out_len: usize) -> Result<Vec<u64>, u8> {
+/// Sum minus weight times grey.
+pub fn leftover(sum: u64, weight: u64) -> i64 {
+    let value = i128::from(sum) - i128::from(weight) * i128::from(grey(sum, weight));
+    i64::try_from(value).expect("a leftover is at most half a weight in size")
+}
+
+/// The greys of some sums, and the leftover of each.
+#[derive(Clone, Debug, PartialEq, Eq)]
+pub struct Rounded {
+    pub greys: Vec<u64>,
+    pub leftovers: Vec<i64>,
+}
+
+fn rounded(sums: &[u64], weight: u64) -> Rounded {
+    Rounded {
+        greys: sums.iter().map(|&sum| grey(sum, weight)).collect(),
+        leftovers: sums.iter().map(|&sum| leftover(sum, weight)).collect(),
+    }
+}
+
+/// A row of sums rounded: refusals 1 to 4, then 7 for an output of another
+/// length than the row, be it that of the greys or that of the leftovers, then
+/// 11 for a sum above the largest grey times the weight.
+pub fn round_row(recipe: &Recipe, sums: &[u64], out_lens: [usize; 2]) -> Result<Rounded, u8> {
     check(recipe)?;
-    if out_len != sums.len() {
+    if out_lens != [sums.len(); 2] {
         return Err(7);
     }
     let weight = accepted_weight(recipe);
     if sums.iter().any(|&sum| sum > LARGEST_GREY * weight) {
         return Err(11);
     }
-    Ok(sums.iter().map(|&sum| grey(sum, weight)).collect())
+    Ok(rounded(sums, weight))
 }
 
 /// The exact sum that the same-size blur takes for picture place (x, y), from
@@ -56,25 +76,25 @@ pub fn same_size_cells(recipe: &Recipe, w: usize, h: usize) -> Result<usize, u8>
     Ok(2 * grown_size(recipe, w, h)?)
 }
 
-/// The same-size blur: refusals 1 to 8.
+/// The same-size blur, with outputs for the greys and for the leftovers:
+/// refusals 1 to 8.
 pub fn same_size_blur(
     recipe: &Recipe,
     w: usize,
     h: usize,
     pixels: &[u64],
-    out_len: usize,
+    out_lens: [usize; 2],
     cells_len: usize,
-) -> Result<Vec<u64>, u8> {
+) -> Result<Rounded, u8> {
     check_picture(recipe, w, h, pixels.len())?;
-    if out_len != w * h {
+    if out_lens != [w * h; 2] {
         return Err(7);
     }
     if cells_len < same_size_cells(recipe, w, h)? {
         return Err(8);
     }
-    let weight = accepted_weight(recipe);
     let sums = same_size_sums(recipe, w, h, pixels);
-    Ok(sums.into_iter().map(|sum| grey(sum, weight)).collect())
+    Ok(rounded(&sums, accepted_weight(recipe)))
 }
 
 /// The work cells of a difference: twice both grown sizes together; the
@@ -153,10 +173,10 @@ pub enum Choice {
     Quotient,
 }
 
-/// The value of a reading.
+/// The value of a reading; beside the grey its leftover.
 #[derive(Clone, Copy, Debug, PartialEq)]
 pub enum Reading {
-    Grey(u64),
+    Grey(u64, i64),
     Sum(u64),
     Quotient(f64),
 }
@@ -180,7 +200,7 @@ pub fn reading(
     let sum = same_size_sum(&Picture { w, h, pixels }, &r, &c, place.0, place.1);
     // Sum and weight are below 2^53, so both are exact as 64-bit floats.
     Ok(match choice {
-        Choice::Grey => Reading::Grey(grey(sum, weight)),
+        Choice::Grey => Reading::Grey(grey(sum, weight), leftover(sum, weight)),
         Choice::Sum => Reading::Sum(sum),
         Choice::Quotient => Reading::Quotient(sum as f64 / weight as f64),
     })

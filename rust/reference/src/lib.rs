@@ -23,8 +23,8 @@ pub mod stream;
 pub mod triangle;
 
 pub use greys::{
-    difference, difference_cells, difference_of_sums, grey, reading, round_row, same_size_blur,
-    same_size_cells, Choice, Reading,
+    difference, difference_cells, difference_of_sums, grey, leftover, reading, round_row,
+    same_size_blur, same_size_cells, Choice, Reading, Rounded,
 };
 pub use job::{
     boresums, job_length, pixels_of, read_job, write_job, Job, PROGRAM_BYTES, PROGRAM_CELLS,

@@ -10,8 +10,9 @@ use mir.Syntax.{w16}
 use mir.ValLaws.{toZ-ofZ}
 use Rattle.spec.specs.Picture.{largestGray}
 use Rattle.spec.specs.Gray.{gray}
+use Rattle.laws.proofs.Signed.{apart-fits}
 use Rattle.gray.proofs.Dividing.{rounded-gray}
-use Rattle.difference.proofs.Nearest.{not-negative, negative, byte-is, negated-is, apart-fits}
+use Rattle.difference.proofs.Nearest.{not-negative, negative, byte-is, byte-negated}
 use Rattle.difference.proofs.signed.Statement.{statement}
 use Rattle.difference.proofs.signed.Tie as tie
 
@@ -37,7 +38,7 @@ cast-size : tie.Need-cast-size
 cast-size c = let small = size-is c .1 in search needs
 
 sub-result : tie.Need-sub-result
-sub-result c = let small = size-is (c .before) .1 in search (needs, apart-fits)
+sub-result c = let small = size-is (c .before) .1 in apart-fits w16 0 (c .before .rounded .result) (omega arith) (omega (arith, small))
 
 returns : tie.Need-returns
 returns c =
@@ -52,7 +53,7 @@ returns-2 c =
     let q = size-is (c .before) in
     let gap : c .before .before .if1 .gap ≡ a .y - a .x = omega (arith, gap-is (c .before .before), c .if2 .left) in
     toZ-ofZ w16 _ (sub-result c)
-    ∙ negated-is _ (q .1)
+    ∙ byte-negated _ (q .1)
     ∙ ap (λ n. negℤ (pos n)) (q .0 ∙ ap (gray (a .by .weight)) gap)
     ∙ negative (a .x) (a .y) (a .by .weight) (c .if2 .left)
 

@@ -16,9 +16,12 @@ same-length c = search needs
 same-length-2 : tie.Need-same-length-2
 same-length-2 c = search needs
 
+same-length-3 : tie.Need-same-length-3
+same-length-3 c = search needs
+
 returns : tie.Need-returns
-returns c = rw (c .before .before .before .before .before .before .before .filter-of .ensures) at (c .before .before .before .before .blur .ensures)
+returns c = rw (c .before .before .before .before .before .before .before .before .before .filter-of .ensures) at (c .before .before .before .before .before .blur .ensures)
 
 pub bore-blur-spec : {M : Type 1} → statement M
 bore-blur-spec =
-    tie.close (tie.spec filter-of-requires blur-requires same-length same-length-2 returns)
+    tie.close (tie.spec filter-of-requires blur-requires same-length same-length-2 same-length-3 returns)

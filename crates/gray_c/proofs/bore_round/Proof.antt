@@ -13,8 +13,12 @@ round-requires c κs = search needs
 same-length : tie.Need-same-length
 same-length c = search needs
 
+same-length-2 : tie.Need-same-length-2
+same-length-2 c = search needs
+
 returns : tie.Need-returns
-returns c = rw (c .before .before .before .before .filter-of .ensures) at (c .before .before .round .ensures)
+returns c = rw (c .before .before .before .before .before .before .filter-of .ensures) at (c .before .before .before .round .ensures)
 
 pub bore-round-spec : {M : Type 1} → statement M
-bore-round-spec = tie.close (tie.spec filter-of-requires round-requires same-length returns)
+bore-round-spec =
+    tie.close (tie.spec filter-of-requires round-requires same-length same-length-2 returns)

@@ -1,21 +1,52 @@
--- `gray_c::bore_sample_mean` meets its contract: the quotient of `sample_into`, for the recipe that is given.
+-- `gray_c::bore_sample_mean` meets its contract: the quotient of `sample::reading`, for the recipe that is given.
 -- Assumes nothing.
+use mathlib.Core.Path.{sym, _∙_}
 use borrow.Author.Needs.{needs}
-use Rattle.spec.specs.Gray.{reading, expressed, placeWeight, sameQuotient}
+use Rattle.spec.specs.Recipe.{recipe}
+use Rattle.spec.specs.Picture.{picture}
+use Rattle.spec.specs.Gray.{asQuotient, expressed, placeWeight, sameQuotient, reading}
+use Rattle.spec.specs.Refusals.{answer, readingChecks}
+use Rattle.laws.proofs.Refusals.{lent-refused, lent-accepted}
+use Rattle.blocks.specs.Given.{given}
+use Rattle.gray_c.specs.Parted.{Parted}
+use Rattle.gray_c.proofs.Parting.{parted-same, is-read, refusal-is}
 use Rattle.gray_c.proofs.bore_sample_mean.Statement.{statement}
 use Rattle.gray_c.proofs.bore_sample_mean.Tie as tie
 
 filter-of-requires : tie.Need-filter-of-requires
 filter-of-requires c κs = search needs
 
-sample-into-requires : tie.Need-sample-into-requires
-sample-into-requires c κs = search needs
+reading-requires : tie.Need-reading-requires
+reading-requires c κs = search needs
+
+parts-of-requires : tie.Need-parts-of-requires
+parts-of-requires c κs = search needs
+
+-- the parts are those of the reading
+told : (c : tie.After-parts-of) → let args = c .before .before .before .before .args in
+    let r = recipe (given (args .block .now)) in let p = picture (args .width) (args .height) (args .pixels .now) in
+    Parted (answer (readingChecks r p (args .column) (args .row)) (reading asQuotient r p (args .column) (args .row))) (c .parts-of .result)
+told c = parted-same _ _ _ (rw (c .before .before .filter-of .ensures) at (c .before .reading .ensures)) (c .parts-of .ensures)
 
 returns : tie.Need-returns
 unfolding reading expressed placeWeight sameQuotient
 returns c =
-    let told = rw (c .before .before .before .before .filter-of .ensures) at (c .sample-into .ensures) in
-    (told .answer, told .inQuotient)
+    let parted = c .before .before in
+    let q = is-read _ _ _ (told parted) (c .if1 .taken) in
+    (sym (refusal-is _ _ _ (told parted)), q .1 ∙ sym (lent-accepted _ _ _ (q .0)))
+
+returns-2 : tie.Need-returns-2
+returns-2 c =
+    let parted = c .before .before in
+    let number = refusal-is _ _ _ (told parted) in
+    (sym number, sym (lent-refused _ _ _ _ number (c .if1 .left)))
 
 pub bore-sample-mean-spec : {M : Type 1} → statement M
-bore-sample-mean-spec = tie.close (tie.spec filter-of-requires sample-into-requires returns)
+bore-sample-mean-spec =
+    tie.close
+    (tie.spec
+    filter-of-requires
+    reading-requires
+    parts-of-requires
+    returns
+    returns-2)

@@ -1,9 +1,12 @@
 -- `sample::express` meets its contract, in each of the three cases.
 -- Assumes nothing.
-use mathlib.Core.Path.{sym, ap, _∙_}
+use mathlib.Core.Path.{sym, ap, ap₂, _∙_}
 use native.Mathlib.Omega.{arith}
 use borrow.Author.Needs.{needs}
-use Rattle.spec.specs.Gray.{grayReading, quotientReading, gray, expressed}
+use mir.Syntax.{w64}
+use mir.Val.{SFits}
+use mir.ValLaws.{toZ-ofZ}
+use Rattle.spec.specs.Gray.{grayReading, quotientReading, gray, leftover, expressed}
 use Rattle.sample.specs.Sampled.{chosen}
 use Rattle.sample.proofs.express.Statement.{statement}
 use Rattle.sample.proofs.express.Tie as tie
@@ -28,9 +31,14 @@ mean-requires c κs = search needs
 returns : tie.Need-returns
 unfolding expressed
 returns c =
-    let told = c .before in
+    let told = c .before .before in
     let start = told .before .before in
-    ap grayReading (c .shade .ensures ∙ ap (λ w. gray w (start .args .sum)) (sym (start .pre .1)))
+    let is = c .before .shade .ensures in
+    let weight = sym (start .pre .1) in
+    let held : SFits w64 (c .before .shade .result .leftover) = search needs in
+    ap₂ grayReading
+    (is .0 ∙ ap (λ w. gray w (start .args .sum)) weight)
+    (toZ-ofZ w64 _ held ∙ is .1 ∙ ap (λ w. leftover w (start .args .sum)) weight)
     ∙ ap (λ q. expressed (chosen q) (start .args .weight) (start .args .sum)) (sym (told .enum-told .given .1))
 
 returns-2 : tie.Need-returns-2

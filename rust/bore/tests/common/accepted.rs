@@ -20,22 +20,27 @@ pub fn moments(filter: &Filter) -> Moments {
     moments
 }
 
-/// The greys of a row of sums.
-pub fn round(filter: &Filter, sums: &[u64]) -> Vec<u64> {
+/// The greys of a row of sums, and their leftovers.
+pub fn round(filter: &Filter, sums: &[u64]) -> (Vec<u64>, Vec<i64>) {
     let mut out = vec![BEFORE as u8; sums.len()];
-    assert_eq!(bore::round(filter, sums, &mut out), 0, "{filter:?}");
-    out.into_iter().map(u64::from).collect()
+    let mut leftovers = vec![BEFORE as i64; sums.len()];
+    let number = bore::round(filter, sums, &mut out, &mut leftovers);
+    assert_eq!(number, 0, "{filter:?}");
+    (out.into_iter().map(u64::from).collect(), leftovers)
 }
 
-/// The same-size blur, with just as many cells as it needs.
-pub fn blur(filter: &Filter, width: usize, height: usize, pixels: &[u64]) -> Vec<u64> {
+/// The same-size blur, with just as many cells as it needs: the greys and their
+/// leftovers.
+pub fn blur(filter: &Filter, width: usize, height: usize, pixels: &[u64]) -> (Vec<u64>, Vec<i64>) {
     let needed = reference::same_size_cells(&recipe_of(filter), width, height);
     let mut cells = vec![BEFORE; needed.expect("the recipe and the sides are accepted")];
     let mut out = vec![BEFORE as u8; width * height];
+    let mut leftovers = vec![BEFORE as i64; width * height];
     let pixels: Vec<u8> = narrow(pixels);
-    let number = bore::blur(filter, width, height, &pixels, &mut out, &mut cells);
+    let (outs, rest) = (&mut out, &mut leftovers);
+    let number = bore::blur(filter, width, height, &pixels, outs, rest, &mut cells);
     assert_eq!(number, 0, "{width} by {height}, {filter:?}");
-    out.into_iter().map(u64::from).collect()
+    (out.into_iter().map(u64::from).collect(), leftovers)
 }
 
 /// The difference, with just as many cells as it needs.

@@ -9,90 +9,124 @@ use super::pictures::Picture;
 use super::{narrow, Case};
 use bore::{Quantity, Sample};
 use reference::random::Random;
-use reference::{Choice, Reading};
-use std::fmt::{Arguments, Debug};
+use reference::{Choice, Reading, Rounded};
+use std::fmt::Arguments;
 
-/// The rounding of these sums to an output of this length.
-pub fn round(case: &Case, random: &mut Random, sums: &[u64], out_len: usize) -> u8 {
-    let expected = reference::round_row(&case.recipe(), sums, out_len);
+/// The outputs of rounding, for greys and for leftovers.
+#[derive(Clone)]
+struct Outputs {
+    grays: Lent<u8>,
+    leftovers: Lent<i64>,
+}
+
+impl Outputs {
+    /// Random values, of which so many are lent.
+    fn any(random: &mut Random, [grays, leftovers]: [usize; 2]) -> Outputs {
+        Outputs {
+            grays: Lent::any_bytes(random, grays),
+            leftovers: Lent::signed_words(random, leftovers),
+        }
+    }
+
+    /// What an accepted call leaves, or on a refusal these values.
+    fn left(&self, expected: &Result<Rounded, u8>) -> Outputs {
+        let mut left = self.clone();
+        if let Ok(Rounded { greys, leftovers }) = expected {
+            left.grays.set(&narrow(greys));
+            left.leftovers.set(leftovers);
+        }
+        left
+    }
+
+    fn has_to_be(&self, expected: &Outputs, note: Arguments) {
+        self.grays.has_to_be(&expected.grays, "greys", note);
+        self.leftovers
+            .has_to_be(&expected.leftovers, "leftovers", note);
+    }
+}
+
+/// The rounding of these sums to outputs of these lengths.
+pub fn round(case: &Case, random: &mut Random, sums: &[u64], out_lens: [usize; 2]) -> u8 {
+    let expected = reference::round_row(&case.recipe(), sums, out_lens);
     let mut row = Lent::words(random, sums.len());
     row.set(sums);
-    let lent = Lent::any_bytes(random, out_len);
-    let mut left = lent.clone();
-    if let Ok(grays) = &expected {
-        left.set(&narrow(grays));
-    }
+    let lent = Outputs::any(random, out_lens);
+    let left = lent.left(&expected);
     for filter in case.both() {
         let mut found = lent.clone();
         let given = row.clone();
-        let refusal = bore::round(filter, given.part(), found.part_mut());
-        let note = format_args!("{} sums, length {out_len}, {case:?}", sums.len());
+        let (grays, leftovers) = (found.grays.part_mut(), found.leftovers.part_mut());
+        let refusal = bore::round(filter, given.part(), grays, leftovers);
+        let note = format_args!("{} sums, lengths {out_lens:?}, {case:?}", sums.len());
         assert_eq!(refusal, number(&expected), "rounding, {note}");
-        found.has_to_be(&left, "greys", note);
+        found.has_to_be(&left, note);
         given.has_to_be(&row, "sums", note);
     }
     number(&expected)
 }
 
-/// What a blur or a difference is lent.
+/// What a blur or a difference is lent: a picture, its outputs, and work cells.
 #[derive(Clone)]
 struct Buffers<T> {
     pixels: Lent<u8>,
-    out: Lent<T>,
+    out: T,
     cells: Lent<u64>,
 }
 
-impl<T: Copy + Debug + PartialEq> Buffers<T> {
-    /// Makes calls with these buffers, as many as there are turns. Number and
-    /// output have to be the reference's. The first cells of an accepted call
-    /// are free; they have to be the same after every turn.
+impl<T: Clone> Buffers<T> {
+    /// Makes calls with these buffers, as many as there are turns. The number
+    /// has to be this one, and the outputs have to pass the test. The first
+    /// cells of an accepted call are free; they have to be the same after every
+    /// turn.
     fn agree(
         &self,
-        expected: &Result<Vec<T>, u8>,
+        expected: u8,
         free: usize,
         turns: usize,
         call: impl Fn(usize, &mut Buffers<T>) -> u8,
+        test: impl Fn(&T),
         note: Arguments,
     ) {
         let mut left = self.clone();
-        if let Ok(values) = expected {
-            left.out.set(values);
-        }
         for turn in 0..turns {
             let mut found = self.clone();
             let refusal = call(turn, &mut found);
-            assert_eq!(refusal, number(expected), "{note}");
+            assert_eq!(refusal, expected, "{note}");
             if turn == 0 && refusal == 0 {
                 left.cells.set(&found.cells.part()[..free]);
             }
-            found.out.has_to_be(&left.out, "output", note);
+            test(&found.out);
             found.cells.has_to_be(&left.cells, "cells", note);
             found.pixels.has_to_be(&left.pixels, "pixels", note);
         }
     }
 }
 
-/// The same-size blur with an output and work cells of these lengths.
-pub fn blur(case: &Case, random: &mut Random, picture: &Picture, lengths: [usize; 2]) -> u8 {
-    let [out_len, cells_len] = lengths;
+/// The same-size blur with outputs for greys and leftovers and work cells of
+/// these lengths.
+pub fn blur(case: &Case, random: &mut Random, picture: &Picture, lengths: [usize; 3]) -> u8 {
+    let [grays_len, leftovers_len, cells_len] = lengths;
+    let out_lens = [grays_len, leftovers_len];
     let (width, height) = (picture.width, picture.height);
     let pixels = &picture.pixels;
     let recipe = case.recipe();
-    let expected = reference::same_size_blur(&recipe, width, height, pixels, out_len, cells_len)
-        .map(|grays| narrow(&grays));
+    let expected = reference::same_size_blur(&recipe, width, height, pixels, out_lens, cells_len);
     let needed = reference::same_size_cells(&recipe, width, height);
     let lent = Buffers {
         pixels: Lent::bytes(random, &narrow(pixels)),
-        out: Lent::any_bytes(random, out_len),
+        out: Outputs::any(random, out_lens),
         cells: Lent::words(random, cells_len),
     };
-    let call = |turn: usize, lent: &mut Buffers<u8>| {
-        let (out, cells) = (lent.out.part_mut(), lent.cells.part_mut());
-        let filter = case.both()[turn];
-        bore::blur(filter, width, height, lent.pixels.part(), out, cells)
+    let left = lent.out.left(&expected);
+    let call = |turn: usize, lent: &mut Buffers<Outputs>| {
+        let (grays, leftovers) = (lent.out.grays.part_mut(), lent.out.leftovers.part_mut());
+        let (filter, p) = (case.both()[turn], lent.pixels.part());
+        let cells = lent.cells.part_mut();
+        bore::blur(filter, width, height, p, grays, leftovers, cells)
     };
     let note = format_args!("blur of {width} by {height}, lengths {lengths:?}, {case:?}");
-    lent.agree(&expected, needed.unwrap_or(0), 2, call, note);
+    let test = |found: &Outputs| found.has_to_be(&left, note);
+    lent.agree(number(&expected), needed.unwrap_or(0), 2, call, test, note);
     number(&expected)
 }
 
@@ -108,41 +142,53 @@ pub fn difference(
     let (width, height) = (picture.width, picture.height);
     let pixels = &picture.pixels;
     let [x, y] = [a, b].map(Case::recipe);
-    let expected = reference::difference(&x, &y, width, height, pixels, out_len, cells_len)
-        .map(|differences| narrow(&differences));
+    let expected = reference::difference(&x, &y, width, height, pixels, out_len, cells_len);
     let needed = reference::difference_cells(&x, &y, width, height);
     let lent = Buffers {
         pixels: Lent::bytes(random, &narrow(pixels)),
         out: Lent::signed(random, out_len),
         cells: Lent::words(random, cells_len),
     };
-    let call = |turn: usize, lent: &mut Buffers<i16>| {
+    let mut left = lent.out.clone();
+    if let Ok(differences) = &expected {
+        left.set(&narrow(differences));
+    }
+    let call = |turn: usize, lent: &mut Buffers<Lent<i16>>| {
         let (out, cells) = (lent.out.part_mut(), lent.cells.part_mut());
         let (a, b) = (a.both()[turn / 2], b.both()[turn % 2]);
         bore::difference(a, b, width, height, lent.pixels.part(), out, cells)
     };
     let note = format_args!("difference on {width} by {height}, lengths {lengths:?}, {a:?}, {b:?}");
-    lent.agree(&expected, needed.unwrap_or(0), 4, call, note);
+    let test = |found: &Lent<i16>| found.has_to_be(&left, "output", note);
+    lent.agree(number(&expected), needed.unwrap_or(0), 4, call, test, note);
     number(&expected)
 }
 
 /// The library's form of a reading.
 fn sample_of(reading: Reading) -> Sample {
     match reading {
-        Reading::Grey(gray) => Sample::Gray(u8::try_from(gray).expect("a grey is a byte")),
+        Reading::Grey(gray, leftover) => Sample::Gray {
+            gray: u8::try_from(gray).expect("a grey is a byte"),
+            leftover,
+        },
         Reading::Sum(sum) => Sample::Sum(sum),
         Reading::Quotient(mean) => Sample::Mean(mean),
     }
 }
 
 /// The kind and the bits of a reading, so that floats are compared by their
-/// bits.
-fn bits(sample: Sample) -> (Quantity, u64) {
+/// bits; for a grey its leftover besides.
+fn bits(sample: Sample) -> (Quantity, u64, i64) {
     match sample {
-        Sample::Gray(gray) => (Quantity::Gray, gray.into()),
-        Sample::Sum(sum) => (Quantity::Sum, sum),
-        Sample::Mean(mean) => (Quantity::Mean, mean.to_bits()),
+        Sample::Gray { gray, leftover } => (Quantity::Gray, gray.into(), leftover),
+        Sample::Sum(sum) => (Quantity::Sum, sum, 0),
+        Sample::Mean(mean) => (Quantity::Mean, mean.to_bits(), 0),
     }
+}
+
+/// A grey and its leftover.
+fn shade((gray, leftover): (u8, i64)) -> Sample {
+    Sample::Gray { gray, leftover }
 }
 
 /// Makes a call that writes the second of three values.
@@ -165,7 +211,7 @@ fn read<T: Copy>(
 fn any_sample(random: &mut Random) -> Sample {
     let word = random.word();
     random.one_of(&[
-        Sample::Gray(word as u8),
+        shade((word as u8, !word as i64)),
         Sample::Sum(word),
         Sample::Mean(f64::from_bits(word)),
     ])
@@ -193,9 +239,9 @@ pub fn sample(case: &Case, random: &mut Random, picture: &Picture, place: (usize
             read(samples, |sample| sample, expected, by_choice, note);
         }
         let words = [(); 3].map(|_| random.word());
-        let bytes = words.map(|word| word as u8);
-        let call = |v: &mut u8| bore::sample_gray(f, w, h, p, place, v);
-        read(bytes, Sample::Gray, &gray, call, note);
+        let shades = words.map(|word| (word as u8, word as i64));
+        let call = |v: &mut (u8, i64)| bore::sample_gray(f, w, h, p, place, &mut v.0, &mut v.1);
+        read(shades, shade, &gray, call, note);
         let call = |v: &mut u64| bore::sample_sum(f, w, h, p, place, v);
         read(words, Sample::Sum, &sum, call, note);
         let call = |v: &mut f64| bore::sample_mean(f, w, h, p, place, v);

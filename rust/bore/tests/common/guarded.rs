@@ -53,6 +53,7 @@ pub unsafe trait Plain: Copy {}
 // SAFETY: these are numbers, and structs and arrays of numbers of one size.
 unsafe impl Plain for u8 {}
 unsafe impl Plain for i16 {}
+unsafe impl Plain for i64 {}
 unsafe impl Plain for u64 {}
 unsafe impl Plain for usize {}
 unsafe impl Plain for Cascade {}

@@ -37,6 +37,13 @@ impl Lent<i16> {
     }
 }
 
+impl Lent<i64> {
+    /// Random signed words, `length` of them to be lent.
+    pub fn signed_words(random: &mut Random, length: usize) -> Lent<i64> {
+        Lent::drawn(random, length, |word| word as i64)
+    }
+}
+
 impl Lent<u8> {
     /// Random bytes, `length` of them to be lent.
     pub fn any_bytes(random: &mut Random, length: usize) -> Lent<u8> {

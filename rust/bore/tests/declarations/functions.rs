@@ -20,10 +20,11 @@ pub const HEADER: &str = "include/bore.h";
 pub const RAW: &str = "rust/bore/src/raw.rs";
 
 /// Each type that crosses: as Rattle, `raw.rs` and the header write it.
-pub const TYPES: [(&str, &str, &str); 9] = [
+pub const TYPES: [(&str, &str, &str); 10] = [
     ("u8", "u8", "uint8_t"),
     ("u64", "u64", "uint64_t"),
     ("i16", "i16", "int16_t"),
+    ("i64", "i64", "int64_t"),
     ("usize", "usize", "size_t"),
     ("f64", "f64", "double"),
     ("[u8; 98]", "Filter", "bore_filter"),

@@ -59,6 +59,11 @@ fn a_changed_declaration_is_seen() {
         ("size_t column, size_t row", "size_t row, size_t column"),
         ("size_t level, size_t width", "size_t width, size_t level"),
         ("int16_t *BORE_RESTRICT out", "uint8_t *BORE_RESTRICT out"),
+        (
+            "int64_t *BORE_RESTRICT leftovers",
+            "uint64_t *BORE_RESTRICT leftovers",
+        ),
+        ("int64_t *BORE_RESTRICT leftover)", "int64_t leftover)"),
         ("uint64_t *BORE_RESTRICT out", "const uint64_t *out"),
         ("const bore_cascade *list", "const bore_filter *list"),
         (
@@ -82,6 +87,7 @@ fn a_changed_declaration_is_seen() {
             "width: usize,\n        level: usize",
         ),
         ("out: *mut i16", "out: *mut u8"),
+        ("leftovers: *mut i64", "leftovers: *mut u64"),
         ("sums: *const u64", "sums: *mut u64"),
         ("list: &Cascade", "list: &Filter"),
         ("words: *mut Words", "words: *mut usize"),

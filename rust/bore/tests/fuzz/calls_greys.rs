@@ -11,20 +11,30 @@ use crate::draw;
 use crate::trial::Trial;
 use bore::{raw, Filter};
 use reference::random::Random;
-use reference::{Choice, Reading, Recipe};
+use reference::{Choice, Reading, Recipe, Rounded};
+
+/// The greys and the leftovers that an accepted call leaves.
+fn left_by(expected: &Result<Rounded, u8>) -> (Vec<u8>, &[i64]) {
+    match expected {
+        Ok(rounded) => (narrow(&rounded.greys), &rounded.leftovers),
+        Err(_) => (Vec::new(), &[]),
+    }
+}
 
 pub fn round(trial: &mut Trial) -> u8 {
     let filter = draw::any_block(&mut trial.random);
     let recipe = recipe_of(&filter);
     let sums = any_sums(&mut trial.random, weight(&recipe));
-    let out_len = draw::length(&mut trial.random, sums.len());
-    let expected = reference::round_row(&recipe, &sums, out_len);
-    let left: Vec<u8> = narrow(expected.as_deref().unwrap_or(&[]));
+    let lengths = [(); 2].map(|_| draw::length(&mut trial.random, sums.len()));
+    let expected = reference::round_row(&recipe, &sums, lengths);
+    let (greys, leftovers) = left_by(&expected);
+    let [out_len, rest_len] = lengths;
     let block = trial.give(&[filter]);
     let row = trial.give(&sums);
-    let out = trial.lend_any(out_len, &left);
-    let found = unsafe { raw::bore_round(&*block, row, sums.len(), out, out_len) };
-    let note = format_args!("{filter:?}, {sums:?}, length {out_len}");
+    let out = trial.lend_any(out_len, &greys);
+    let rest = trial.lend_any(rest_len, leftovers);
+    let found = unsafe { raw::bore_round(&*block, row, sums.len(), out, out_len, rest, rest_len) };
+    let note = format_args!("{filter:?}, {sums:?}, lengths {lengths:?}");
     trial.agree(found, number(&expected), note)
 }
 
@@ -32,22 +42,24 @@ pub fn blur(trial: &mut Trial) -> u8 {
     let (filter, recipe, picture) = draw::filter_and_picture(&mut trial.random);
     let Picture { width, height, .. } = picture;
     let needed = draw::grown_size(&recipe, &picture).wrapping_mul(2);
-    let out_len = draw::length(&mut trial.random, draw::size(&picture));
+    let lengths = [(); 2].map(|_| draw::length(&mut trial.random, draw::size(&picture)));
     let cells_len = draw::cells(&mut trial.random, needed);
     let pixels = &picture.pixels;
-    let expected = reference::same_size_blur(&recipe, width, height, pixels, out_len, cells_len);
-    let left: Vec<u8> = narrow(expected.as_deref().unwrap_or(&[]));
+    let expected = reference::same_size_blur(&recipe, width, height, pixels, lengths, cells_len);
+    let (greys, leftovers) = left_by(&expected);
+    let [out_len, rest_len] = lengths;
     let block = trial.give(&[filter]);
     let p = trial.give(&narrow(pixels));
-    let out = trial.lend_any(out_len, &left);
+    let out = trial.lend_any(out_len, &greys);
+    let rest = trial.lend_any(rest_len, leftovers);
     let cells = trial.lend_free(cells_len, expected.as_ref().map_or(0, |_| needed));
     let p_len = pixels.len();
     let found = unsafe {
         raw::bore_blur(
-            &*block, width, height, p, p_len, out, out_len, cells, cells_len,
+            &*block, width, height, p, p_len, out, out_len, rest, rest_len, cells, cells_len,
         )
     };
-    let note = format_args!("{filter:?}, {picture:?}, lengths {out_len}, {cells_len}");
+    let note = format_args!("{filter:?}, {picture:?}, lengths {lengths:?}, {cells_len}");
     trial.agree(found, number(&expected), note)
 }
 
@@ -113,11 +125,11 @@ fn sample(trial: &mut Trial, choice: Choice) -> u8 {
     let Picture { width, height, .. } = picture;
     let place = any_place(&mut trial.random, &picture);
     let expected = reference::reading(&recipe, width, height, &picture.pixels, place, choice);
-    let left = match expected {
-        Ok(Reading::Grey(grey)) => Some(grey),
-        Ok(Reading::Sum(sum)) => Some(sum),
-        Ok(Reading::Quotient(quotient)) => Some(quotient.to_bits()),
-        Err(_) => None,
+    let (left, leftover) = match expected {
+        Ok(Reading::Grey(grey, leftover)) => (Some(grey), Some(leftover)),
+        Ok(Reading::Sum(sum)) => (Some(sum), None),
+        Ok(Reading::Quotient(quotient)) => (Some(quotient.to_bits()), None),
+        Err(_) => (None, None),
     };
     let block = trial.give(&[filter]);
     let (p, p_len) = (trial.give(&narrow(&picture.pixels)), picture.pixels.len());
@@ -125,7 +137,9 @@ fn sample(trial: &mut Trial, choice: Choice) -> u8 {
     let found = match choice {
         Choice::Grey => {
             let out = trial.lend_any(1, &narrow(left.as_slice()));
-            unsafe { raw::bore_sample_gray(&*block, width, height, p, p_len, x, y, &mut *out) }
+            let rest = trial.lend_any(1, leftover.as_slice());
+            let (out, rest) = unsafe { (&mut *out, &mut *rest) };
+            unsafe { raw::bore_sample_gray(&*block, width, height, p, p_len, x, y, out, rest) }
         }
         Choice::Sum => {
             let out = trial.lend_any(1, left.as_slice());

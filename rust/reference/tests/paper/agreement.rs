@@ -110,14 +110,15 @@ fn blur_reading_and_rounding_agree() {
         let (recipe, w, h, pixels) = random_case(&mut random);
         let (width, height) = grown_sides(&recipe, w, h).unwrap();
         let all = sums(&recipe, w, h, &pixels);
-        let greys = round_row(&recipe, &all, all.len()).unwrap();
-        let blurred = blur(&recipe, w, h, &pixels);
+        let rounded = round_row(&recipe, &all, [all.len(); 2]).unwrap();
+        let (greys, leftovers) = blur(&recipe, w, h, &pixels);
         let (left, top) = ((width - w) / 2, (height - h) / 2);
         for (x, y) in (0..w).flat_map(|x| (0..h).map(move |y| (x, y))) {
             let at = (y + top) * width + x + left;
-            assert_eq!(blurred[y * w + x], greys[at]);
+            let (grey, leftover) = (rounded.greys[at], rounded.leftovers[at]);
+            assert_eq!((greys[y * w + x], leftovers[y * w + x]), (grey, leftover));
             let read = |choice| reading(&recipe, w, h, &pixels, (x, y), choice).unwrap();
-            assert_eq!(read(Choice::Grey), Reading::Grey(greys[at]));
+            assert_eq!(read(Choice::Grey), Reading::Grey(grey, leftover));
             assert_eq!(read(Choice::Sum), Reading::Sum(all[at]));
             let quotient = all[at] as f64 / weight(&recipe) as f64;
             assert_eq!(read(Choice::Quotient), Reading::Quotient(quotient));

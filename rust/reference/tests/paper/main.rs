@@ -35,10 +35,12 @@ fn sums(recipe: &Recipe, w: usize, h: usize, pixels: &[u64]) -> Vec<u64> {
     exact_sums(recipe, w, h, pixels).unwrap()
 }
 
-/// The same-size blur with buffers of just the right lengths.
-fn blur(recipe: &Recipe, w: usize, h: usize, pixels: &[u64]) -> Vec<u64> {
+/// The same-size blur with buffers of just the right lengths: the greys and the
+/// leftovers.
+fn blur(recipe: &Recipe, w: usize, h: usize, pixels: &[u64]) -> (Vec<u64>, Vec<i64>) {
     let cells = same_size_cells(recipe, w, h).unwrap();
-    same_size_blur(recipe, w, h, pixels, w * h, cells).unwrap()
+    let blurred = same_size_blur(recipe, w, h, pixels, [w * h; 2], cells).unwrap();
+    (blurred.greys, blurred.leftovers)
 }
 
 /// The difference with buffers of just the right lengths.

@@ -15,13 +15,13 @@ fn rounding_after_each_box() {
 
     let recipe = rows(&[2, 2]);
     let right = sums(&recipe, 1, 1, &[1]);
-    assert_eq!(round_row(&recipe, &right, 3), Ok(vec![0, 1, 0]));
+    assert_eq!(round_row(&recipe, &right, [3; 2]).unwrap().greys, [0, 1, 0]);
 }
 
 #[test]
 fn rounding_both_blurs_before_the_difference() {
     let (a, b) = (rows(&[]), rows(&[2, 2]));
-    let (grey_a, grey_b) = (blur(&a, 1, 1, &[255])[0], blur(&b, 1, 1, &[255])[0]);
+    let (grey_a, grey_b) = (blur(&a, 1, 1, &[255]).0[0], blur(&b, 1, 1, &[255]).0[0]);
     assert_eq!(grey_a - grey_b, 127);
 
     assert_eq!(subtract(&a, &b, 1, 1, &[255]), [128]);

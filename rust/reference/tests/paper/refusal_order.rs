@@ -143,30 +143,32 @@ fn direct_method() {
 
 #[test]
 fn rounding_of_a_row() {
-    names_the_recipe(|recipe| round_row(recipe, &[u64::MAX], 0));
+    names_the_recipe(|recipe| round_row(recipe, &[u64::MAX], [0; 2]));
     let recipe = rows(&[3]);
-    assert_eq!(round_row(&recipe, &[u64::MAX], 0), Err(7));
-    assert_eq!(round_row(&recipe, &[u64::MAX], 2), Err(7));
-    assert_eq!(round_row(&recipe, &[u64::MAX], 1), Err(11));
-    assert_eq!(round_row(&recipe, &[0, 766], 2), Err(11));
-    assert_eq!(
-        round_row(&recipe, &[0, 1, 2, 765], 4),
-        Ok(vec![0, 0, 1, 255])
-    );
-    assert_eq!(round_row(&recipe, &[], 0), Ok(vec![]));
+    for out_lens in [[0, 1], [2, 1], [1, 0], [1, 2], [0, 0], [2, 2]] {
+        assert_eq!(round_row(&recipe, &[u64::MAX], out_lens), Err(7));
+    }
+    assert_eq!(round_row(&recipe, &[u64::MAX], [1; 2]), Err(11));
+    assert_eq!(round_row(&recipe, &[0, 766], [2; 2]), Err(11));
+    let rounded = round_row(&recipe, &[0, 1, 2, 765], [4; 2]).unwrap();
+    assert_eq!(rounded.greys, [0, 0, 1, 255]);
+    assert_eq!(rounded.leftovers, [0, 1, -1, 0]);
+    assert_eq!(round_row(&recipe, &[], [0; 2]).unwrap().greys, []);
 }
 
 #[test]
 fn same_size_blur_of_a_picture() {
-    names_the_recipe(|recipe| same_size_blur(recipe, 0, 0, &[1], 9, 0));
-    names_the_sides(|w, h| same_size_blur(&both(), w, h, &[], 9, 0));
+    names_the_recipe(|recipe| same_size_blur(recipe, 0, 0, &[1], [9; 2], 0));
+    names_the_sides(|w, h| same_size_blur(&both(), w, h, &[], [9; 2], 0));
     let call = |pixels: &[u64], out, cells| same_size_blur(&both(), 2, 1, pixels, out, cells);
-    assert_eq!(call(&[1], 1, 0), Err(6));
-    assert_eq!(call(&[1, 2], 1, 0), Err(7));
-    assert_eq!(call(&[1, 2], 3, 0), Err(7));
-    assert_eq!(call(&[1, 2], 2, 39), Err(8));
-    assert_eq!(call(&[1, 2], 2, 40).unwrap().len(), 2);
-    assert_eq!(call(&[1, 2], 2, 41), call(&[1, 2], 2, 40));
+    assert_eq!(call(&[1], [1; 2], 0), Err(6));
+    for out_lens in [[1, 2], [3, 2], [2, 1], [2, 3], [1, 1]] {
+        assert_eq!(call(&[1, 2], out_lens, 0), Err(7));
+    }
+    assert_eq!(call(&[1, 2], [2; 2], 39), Err(8));
+    let blurred = call(&[1, 2], [2; 2], 40).unwrap();
+    assert_eq!((blurred.greys.len(), blurred.leftovers.len()), (2, 2));
+    assert_eq!(call(&[1, 2], [2; 2], 41), Ok(blurred));
 }
 
 #[test]
@@ -223,7 +225,7 @@ fn reading_at_one_place() {
         assert!(call(&[1, 2], (1, 0)).is_ok());
     }
     let call = |choice| reading(&rows(&[3]), 2, 1, &[1, 4], (1, 0), choice);
-    assert_eq!(call(Choice::Grey), Ok(Reading::Grey(2)));
+    assert_eq!(call(Choice::Grey), Ok(Reading::Grey(2, -1)));
     assert_eq!(call(Choice::Sum), Ok(Reading::Sum(5)));
     assert_eq!(call(Choice::Quotient), Ok(Reading::Quotient(5.0 / 3.0)));
 }

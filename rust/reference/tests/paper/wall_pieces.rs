@@ -63,16 +63,15 @@ fn equal_reach_and_weight_with_unequal_coefficients() {
 fn three_by_three_of_a_hundred() {
     let recipe = Recipe::new(&[2, 2], &[2, 2]);
     let pixels = [100; 9];
-    assert_eq!(
-        blur(&recipe, 3, 3, &pixels),
-        [56, 75, 56, 75, 100, 75, 56, 75, 56]
-    );
+    let (greys, leftovers) = blur(&recipe, 3, 3, &pixels);
+    assert_eq!(greys, [56, 75, 56, 75, 100, 75, 56, 75, 56]);
+    assert_eq!(leftovers, [4, 0, 4, 0, 0, 0, 4, 0, 4]);
     let at = |place, choice| reading(&recipe, 3, 3, &pixels, place, choice);
     assert_eq!(at((0, 0), Choice::Sum), Ok(Reading::Sum(900)));
-    assert_eq!(at((0, 0), Choice::Grey), Ok(Reading::Grey(56)));
-    assert_eq!(at((1, 0), Choice::Grey), Ok(Reading::Grey(75)));
-    assert_eq!(at((0, 1), Choice::Grey), Ok(Reading::Grey(75)));
-    assert_eq!(at((1, 1), Choice::Grey), Ok(Reading::Grey(100)));
+    assert_eq!(at((0, 0), Choice::Grey), Ok(Reading::Grey(56, 4)));
+    assert_eq!(at((1, 0), Choice::Grey), Ok(Reading::Grey(75, 0)));
+    assert_eq!(at((0, 1), Choice::Grey), Ok(Reading::Grey(75, 0)));
+    assert_eq!(at((1, 1), Choice::Grey), Ok(Reading::Grey(100, 0)));
     assert_eq!(at((2, 2), Choice::Sum), Ok(Reading::Sum(900)));
 }
 
@@ -81,7 +80,7 @@ fn one_two_on_two_pixels() {
     let recipe = rows(&[2]);
     assert_eq!(sums(&recipe, 2, 1, &[1, 0]), [1, 1, 0]);
     assert_eq!(one_pass(&recipe, 2, 1, &[1, 0]).0, [1, 1, 0]);
-    assert_eq!(blur(&recipe, 2, 1, &[1, 0]), [1, 1]);
+    assert_eq!(blur(&recipe, 2, 1, &[1, 0]), (vec![1, 1], vec![-1, -1]));
 }
 
 #[test]
@@ -168,6 +167,7 @@ fn largest_sum_fits_52_bits_and_is_white() {
     let most = 255 * (1u64 << 44);
     assert_eq!(r, Ok(Reading::Sum(most)));
     assert!(most < 1 << 52);
-    assert_eq!(round_row(&recipe, &[most], 1), Ok(vec![255]));
-    assert_eq!(round_row(&recipe, &[most + 1], 1), Err(11));
+    let white = round_row(&recipe, &[most], [1; 2]).unwrap();
+    assert_eq!((white.greys, white.leftovers), (vec![255], vec![0]));
+    assert_eq!(round_row(&recipe, &[most + 1], [1; 2]), Err(11));
 }

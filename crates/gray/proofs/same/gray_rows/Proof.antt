@@ -1,14 +1,15 @@
--- `gray::same::gray_rows` meets its contract: each turn has the next grown row come, and writes one row of greys.
+-- `gray::same::gray_rows` meets its contract: each turn has the next grown row come, and writes one row of greys and one of leftovers.
 -- Assumes nothing.
-use mathlib.Core.Path.{_≡_, sym, ap, subst, _∙_}
+use mathlib.Core.Path.{_≡_, refl, sym, ap, subst, _∙_}
 use Prim.Native.Nat.{ℕ, _+_, _-_, _*_, _/_, _≤_, _<_}
 use native.Mathlib.Nat.{mul-comm, mul-le-mul, zero-add, zero-mul, suc-mul}
 use native.Mathlib.Omega.{arith}
 use borrow.Author.Needs.{needs}
+use lib.IntN.{pos}
 use lib.ListN.{length, getD, take, drop}
 use Rattle.spec.specs.Recipe.{recipe, order}
 use Rattle.spec.specs.Picture.{largestGray, fullWidth, fullHeight, fullRow}
-use Rattle.spec.specs.Gray.{grays, places, sameRow, sameGray}
+use Rattle.spec.specs.Gray.{grays, leftovers, places, sameRow, sameGray, sameLeftover}
 use Rattle.laws.proofs.Numbers.{row-fits}
 use Rattle.laws.proofs.Slices.{Mixed, mixed-none, mixed-all, length-mixed, length-lent}
 use Rattle.laws.proofs.Refusals.{grown-most}
@@ -17,19 +18,21 @@ use Rattle.gray.specs.Division.{Bounded}
 use Rattle.gray.proofs.Dividing.{own-weight, divides-own}
 use Rattle.rows.specs.Streaming.{Streamed, pictureOf}
 use Rattle.rows.proofs.Advancing.{next-row}
-use Rattle.rows.proofs.Taking.{long, taken-length, taken-bounded, taken-grays}
+use Rattle.rows.proofs.Taking.{long, taken-length, taken-bounded, taken-grays, taken-leftovers}
 use Rattle.gray.proofs.same.gray_rows.Statement.{statement}
 use Rattle.gray.proofs.same.gray_rows.Tie as tie
 
 abbrev Inv-loop : tie.InvT-loop
-Inv-loop by left pixels row₀ out₀ cells₀ width right at₀ from₀ j₀ j-end row out cells at from j =
+Inv-loop by left pixels row₀ out₀ leftovers₀ cells₀ width right at₀ from₀ j₀ j-end row out leftovers cells at from j =
     let p = pictureOf at₀ pixels in
     let r = recipe (at₀ .filter) in
-    (j-end ≡ at₀ .height) × (j ≤ at₀ .height) × (from ≡ j * width) × (length row ≡ length row₀) × (length out ≡ length out₀) × (length cells ≡ length cells₀)
-    × Streamed (at₀ .filter) p (sameRow r j) at cells × Mixed from (places p (sameGray r p)) out₀ out
+    (j-end ≡ at₀ .height) × (j ≤ at₀ .height) × (from ≡ j * width) × (length row ≡ length row₀) × (length out ≡ length out₀)
+    × (length leftovers ≡ length leftovers₀) × (length cells ≡ length cells₀)
+    × Streamed (at₀ .filter) p (sameRow r j) at cells
+    × Mixed from (places p (sameGray r p)) out₀ out × Mixed from (places p (sameLeftover r p)) leftovers₀ leftovers
 
 abbrev μ-loop : tie.MeasureT-loop
-μ-loop by left pixels row₀ out₀ cells₀ width right at₀ from₀ j₀ j-end row out cells at from j = j-end - j
+μ-loop by left pixels row₀ out₀ leftovers₀ cells₀ width right at₀ from₀ j₀ j-end row out leftovers cells at from j = j-end - j
 
 -- pixels are bytes
 bytes : (c : tie.After-shared-slice-known Inv-loop μ-loop) (k : ℕ) → getD (c .before .args .pixels .now) k 0 ≤ 255
@@ -57,16 +60,17 @@ loop-holds c =
     let s = start .args .state in
     let r = recipe (s .filter) in
     let p = pictureOf s (start .args .pixels .now) in
-    let out = start .args .out .now in
-    let size : length (places p (sameGray r p)) ≡ length out = length-rows (s .width) (s .height) (λ j i. sameGray r p i j) ∙ mul-comm (s .height) (s .width) ∙ sym (start .pre .2) in (
+    let turned = mul-comm (s .height) (s .width) in (
       search needs,
       omega arith,
       omega (arith, zero-mul (s .width)),
       search needs,
       search needs,
       search needs,
+      search needs,
       subst (λ k. Streamed (s .filter) p k s (start .args .cells .now)) (sym (zero-add (order (r .columns) / 2))) (start .pre .0 .streamed),
-      mixed-none (places p (sameGray r p)) out size,
+      mixed-none _ (start .args .out .now) (length-rows (s .width) (s .height) (λ j i. sameGray r p i j) ∙ turned ∙ sym (start .pre .2)),
+      mixed-none _ (start .args .leftovers .now) (length-rows (s .width) (s .height) (λ j i. sameLeftover r p i j) ∙ turned ∙ sym (start .pre .3)),
     )
 
 advance-requires : tie.Need-advance-requires Inv-loop μ-loop
@@ -82,31 +86,44 @@ came c =
     let turn = c .before .before .before .before in
     let start = turn .before .before .before .before .before in
     let s = start .args .state in
-    next-row (s .filter) (s .width) (s .height) (start .args .pixels .now) (start .pre .0 .picture .size) (bytes (turn .before .before .before .before)) _ _ _ (turn .loop .inv .6) _
+    next-row (s .filter) (s .width) (s .height) (start .args .pixels .now) (start .pre .0 .picture .size) (bytes (turn .before .before .before .before)) _ _ _ (turn .loop .inv .7) _
     (omega (arith, c .before .before .before .loop-test .taken, turn .loop .inv .0)) (turn .loop .inv .3 ∙ start .pre .0 .wide) _ _ _ (c .advance .ensures)
 
--- the row of greys lies inside the output
-inside : (c : tie.In-loop Inv-loop μ-loop) → let turn = c .before in turn .loop .from + turn .before .before .before .before .before .args .state .width ≤ length (turn .loop .out)
-inside c =
+-- the row lies inside an output of the picture's size
+inside : (c : tie.In-loop Inv-loop μ-loop) (size : ℕ) → let s = c .before .before .before .before .before .before .args .state in
+    size ≡ s .width * s .height → c .before .loop .from + s .width ≤ size
+inside c size e =
     let turn = c .before in
-    let start = turn .before .before .before .before .before in
-    let s = start .args .state in
+    let s = turn .before .before .before .before .before .args .state in
     omega (
       arith,
       turn .loop .inv .2,
-      turn .loop .inv .4,
-      start .pre .2,
+      e,
       mul-comm (s .width) (s .height),
       row-fits (s .width) (turn .loop .j) (s .height) (omega (arith, c .loop-test .taken, turn .loop .inv .0)),
     )
 
+-- both outputs have that size
+module _ (c : tie.In-loop Inv-loop μ-loop) where
+  abbrev turn : tie.At-loop Inv-loop μ-loop
+  turn = c .before
+
+  abbrev start : tie.Start Inv-loop μ-loop
+  start = turn .before .before .before .before .before
+
+  inside-out : turn .loop .from + start .args .state .width ≤ length (turn .loop .out)
+  inside-out = inside c (length (turn .loop .out)) (turn .loop .inv .4 ∙ start .pre .2)
+
+  inside-leftovers : turn .loop .from + start .args .state .width ≤ length (turn .loop .leftovers)
+  inside-leftovers = inside c (length (turn .loop .leftovers)) (turn .loop .inv .5 ∙ start .pre .3)
+
 add-to : tie.Need-add-to Inv-loop μ-loop
 add-to c =
-    let start = c .before .before .before .before .before .before .before .before .before .before .before .before .before .before in
-    omega (arith, sizes start, inside (c .before .before .before .before .before .before .before .before), c .before .before .before .before .before .before .before .before .before .loop .inv .4, start .pre .2, mul-comm (start .args .state .width) (start .args .state .height))
+    let s = start (c .before .before .before .before .before .before .before .before) .args .state in
+    omega (arith, sizes (start (c .before .before .before .before .before .before .before .before)), inside (c .before .before .before .before .before .before .before .before) (s .width * s .height) refl, mul-comm (s .width) (s .height))
 
 mul-round-row : tie.Need-mul-round-row Inv-loop μ-loop
-mul-round-row c = omega (arith, sizes (c .before .before .before .before .before .before .before .before .before .before .before .before .before .before))
+mul-round-row c = omega (arith, sizes (start (c .before .before .before .before .before .before .before .before)))
 
 sub-round-row : tie.Need-sub-round-row Inv-loop μ-loop
 sub-round-row c = search needs
@@ -115,9 +132,7 @@ part-round-row-start : tie.Need-part-round-row-start Inv-loop μ-loop
 part-round-row-start c = search needs
 
 part-round-row-end : tie.Need-part-round-row-end Inv-loop μ-loop
-part-round-row-end c =
-    let row = c .before .before .before .before .before .before in
-    omega (arith, sizes (c .before .before .before .before .before .before .before .before .before .before .before .before .before .before .before), long _ _ _ _ (came row .1))
+part-round-row-end c = omega (arith, sizes (start (c .before .before .before .before .before .before .before .before .before)), long _ _ _ _ (came (c .before .before .before .before .before .before) .1))
 
 sub-round-row-2 : tie.Need-sub-round-row-2 Inv-loop μ-loop
 sub-round-row-2 c = search needs
@@ -126,22 +141,40 @@ part-round-row-start-2 : tie.Need-part-round-row-start-2 Inv-loop μ-loop
 part-round-row-start-2 c = search needs
 
 part-round-row-end-2 : tie.Need-part-round-row-end-2 Inv-loop μ-loop
-part-round-row-end-2 c = inside (c .before .before .before .before .before .before .before .before .before .before)
+part-round-row-end-2 c = inside-out (c .before .before .before .before .before .before .before .before .before .before)
+
+mul-round-row-2 : tie.Need-mul-round-row-2 Inv-loop μ-loop
+mul-round-row-2 c =
+    let s = start (c .before .before .before .before .before .before .before .before .before .before .before) .args .state in
+    omega (arith, sizes (start (c .before .before .before .before .before .before .before .before .before .before .before)), inside (c .before .before .before .before .before .before .before .before .before .before .before) (s .width * s .height) refl, mul-comm (s .width) (s .height))
+
+sub-round-row-3 : tie.Need-sub-round-row-3 Inv-loop μ-loop
+sub-round-row-3 c = search needs
+
+part-round-row-start-3 : tie.Need-part-round-row-start-3 Inv-loop μ-loop
+part-round-row-start-3 c = search needs
+
+part-round-row-end-3 : tie.Need-part-round-row-end-3 Inv-loop μ-loop
+part-round-row-end-3 c = inside-leftovers (c .before .before .before .before .before .before .before .before .before .before .before)
 
 round-row-requires : tie.Need-round-row-requires Inv-loop μ-loop
 round-row-requires c κs =
-    let start = c .before .before .before .before .before .before .before .before .before .before .before .before .before .before .before .before .before in
-    let row = c .before .before .before .before .before .before .before .before in
-    let s = start .args .state in
-    let p = pictureOf s (start .args .pixels .now) in
+    let test = c .before .before .before .before .before .before .before .before .before .before .before .before in
+    let row = c .before .before .before .before .before .before .before .before .before in
+    let begun = start test in
+    let loop = turn test .loop in
+    let s = begun .args .state in
+    let p = pictureOf s (begun .args .pixels .now) in
     let r = recipe (s .filter) in
-    let left = start .args .left in
-    let half = start .pre .0 .half in
-    let d = start .pre .1 in
-    let many : left + s .width - left ≡ s .width = omega arith in (
+    let left = begun .args .left in
+    let half = begun .pre .0 .half in
+    let d = begun .pre .1 in
+    let many : left + s .width - left ≡ s .width = omega arith in
+    let taken = taken-length r p _ _ (came row .1) left _ half many in (
       divides-own _ _ d,
-      subst (λ w. Bounded largestGray w (take (left + s .width - left) (drop left (row .advance .last .1 .1 .0)))) (sym (own-weight _ _ d)) (taken-bounded r p _ _ (came row .1) left _ half many largestGray (bytes (c .before .before .before .before .before .before .before .before .before .before .before .before .before .before .before .before))),
-      taken-length r p _ _ (came row .1) left _ half many ∙ sym (length-lent (c .before .before .before .before .before .before .before .before .before .before .before .before .loop .from) (s .width) (c .before .before .before .before .before .before .before .before .before .before .before .before .loop .out) (inside (c .before .before .before .before .before .before .before .before .before .before .before))),
+      subst (λ w. Bounded largestGray w (take (left + s .width - left) (drop left (row .advance .last .1 .1 .0)))) (sym (own-weight _ _ d)) (taken-bounded r p _ _ (came row .1) left _ half many largestGray (bytes (c .before .before .before .before .before .before .before .before .before .before .before .before .before .before .before .before .before))),
+      length-lent (loop .from) (s .width) (loop .out) (inside-out test) ∙ sym taken,
+      length-lent (loop .from) (s .width) (loop .leftovers) (inside-leftovers test) ∙ sym taken,
     )
 
 add-j : tie.Need-add-j Inv-loop μ-loop
@@ -153,34 +186,40 @@ loop-less c = search needs
 loop-again : tie.Need-loop-again Inv-loop μ-loop
 unfolding places sameRow
 loop-again c =
-    let turn = c .before .before .before .before .before .before .before .before .before .before .before .before .before .before .before in
-    let test = c .before .before .before .before .before .before .before .before .before .before .before .before .before .before in
-    let start = turn .before .before .before .before .before in
-    let s = start .args .state in
-    let p = pictureOf s (start .args .pixels .now) in
+    let test = c .before .before .before .before .before .before .before .before .before .before .before .before .before .before .before .before in
+    let next = c .before .before .before .before .before .before .before .before .before .before .before .before .before in
+    let made = c .before .before .before .round-row .ensures in
+    let loop = turn test .loop in
+    let begun = start test in
+    let s = begun .args .state in
+    let p = pictureOf s (begun .args .pixels .now) in
     let r = recipe (s .filter) in
-    let j = turn .loop .j in
-    let from = turn .loop .from in
-    let left = start .args .left in
-    let next = c .before .before .before .before .before .before .before .before .before .before .before in
-    let below : j < s .height = omega (arith, test .loop-test .taken, turn .loop .inv .0) in
+    let j = loop .j in
+    let from = loop .from in
+    let left = begun .args .left in
+    let half = begun .pre .0 .half in
+    let own = own-weight _ _ (begun .pre .1) in
+    let below : j < s .height = omega (arith, test .loop-test .taken, loop .inv .0) in
     let follows : sameRow r j + 1 ≡ sameRow r (j + 1) = omega arith in
     let many : left + s .width - left ≡ s .width = omega arith in
     let row = next .advance .last .1 .1 .0 in
-    let made =
-    c .before .before .round-row .ensures
-    ∙ ap (λ w. grays w (take (left + s .width - left) (drop left row))) (own-weight _ _ (start .pre .1))
-    ∙ taken-grays r p j row (came next .1) left _ (start .pre .0 .half) many in
+    let taken = take (left + s .width - left) (drop left row) in
+    let grays-made = made .0 ∙ ap (λ w. grays w taken) own ∙ taken-grays r p j row (came next .1) left _ half many in
+    let leftovers-made = made .1 ∙ ap (λ w. leftovers w taken) own ∙ taken-leftovers r p j row (came next .1) left _ half many in
     let written =
-    rows-more (s .width) (s .height) (λ j i. sameGray r p i j) 0 j from _ (turn .loop .inv .7) (turn .loop .inv .2) below (omega (arith, inside test, turn .loop .inv .4)) made in (
-      turn .loop .inv .0,
+    rows-more (s .width) (s .height) (λ j i. sameGray r p i j) 0 j from _ (loop .inv .8) (loop .inv .2) below (omega (arith, inside-out test, loop .inv .4)) grays-made in
+    let behind =
+    rows-more (s .width) (s .height) (λ j i. sameLeftover r p i j) (pos 0) j from _ (loop .inv .9) (loop .inv .2) below (omega (arith, inside-leftovers test, loop .inv .5)) leftovers-made in (
+      loop .inv .0,
       omega (arith, below),
-      omega (arith, turn .loop .inv .2, suc-mul j (s .width)),
-      long _ _ _ _ (came next .1) ∙ sym (start .pre .0 .wide),
+      omega (arith, loop .inv .2, suc-mul j (s .width)),
+      long _ _ _ _ (came next .1) ∙ sym (begun .pre .0 .wide),
       length-mixed written,
-      next .advance .kept .1 .1 .1 .0 ∙ turn .loop .inv .5,
+      length-mixed behind,
+      next .advance .kept .1 .1 .1 .0 ∙ loop .inv .6,
       subst (λ k. Streamed (s .filter) p k (next .advance .result .state) (next .advance .last .1 .1 .1 .0)) follows (came next .0),
       written,
+      behind,
     )
 
 same-length : tie.Need-same-length Inv-loop μ-loop
@@ -192,13 +231,19 @@ same-length-2 c = search needs
 same-length-3 : tie.Need-same-length-3 Inv-loop μ-loop
 same-length-3 c = search needs
 
+same-length-4 : tie.Need-same-length-4 Inv-loop μ-loop
+same-length-4 c = search needs
+
 returns : tie.Need-returns Inv-loop μ-loop
 returns c =
     let turn = c .before in
-    let start = turn .before .before .before .before .before in
-    let s = start .args .state in
+    let begun = turn .before .before .before .before .before in
+    let s = begun .args .state in
     let done : turn .loop .j ≡ s .height = omega (arith, turn .loop .inv .0, turn .loop .inv .1, c .loop-test .left) in
-    mixed-all (turn .loop .inv .7) (omega (arith, turn .loop .inv .2, ap (λ k. k * s .width) done, mul-comm (s .height) (s .width), start .pre .2))
+    let all : turn .loop .from ≡ s .width * s .height = turn .loop .inv .2 ∙ ap (λ k. k * s .width) done ∙ mul-comm (s .height) (s .width) in (
+      mixed-all (turn .loop .inv .8) (omega (arith, all, begun .pre .2)),
+      mixed-all (turn .loop .inv .9) (omega (arith, all, begun .pre .3)),
+    )
 
 pub gray-rows-spec : {M : Type 1} → statement M
 gray-rows-spec =
@@ -217,6 +262,10 @@ gray-rows-spec =
     sub-round-row-2
     part-round-row-start-2
     part-round-row-end-2
+    mul-round-row-2
+    sub-round-row-3
+    part-round-row-start-3
+    part-round-row-end-3
     round-row-requires
     add-j
     loop-less
@@ -224,4 +273,5 @@ gray-rows-spec =
     same-length
     same-length-2
     same-length-3
+    same-length-4
     returns)

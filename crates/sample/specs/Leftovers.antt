@@ -1,0 +1,19 @@
+-- Document 02, S-2: the leftover that a reading shows beside its grey lies as `WithinHalf` says, by the weight at the place.
+use mathlib.Core.Path.{_≡_}
+use Prim.Native.Nat.{ℕ}
+use lib.IntN.{ℤ}
+use Rattle.spec.specs.Recipe.{Recipe}
+use Rattle.spec.specs.Picture.{Picture}
+use Rattle.spec.specs.Gray.{asGray, placeWeight, reading}
+use Rattle.spec.specs.Refusals.{first, answer, readingChecks}
+use Rattle.spec.specs.Ranges.{WithinHalf}
+use Rattle.sample.specs.declared.Sample.the-variants as sample
+use Rattle.sample.specs.declared.Sampled.{Sampled}
+use Rattle.sample.specs.declared.Sampled.the-variants as sampled
+use Rattle.sample.specs.Sampled.{sampledTold}
+
+-- Whatever the contract admits as the answer where the grey is chosen and no check applies is a grey and such a leftover.
+abbrev pub ReadingFits : Type 0
+ReadingFits =
+    (r : Recipe) (p : Picture) (i j : ℕ) (x : Sampled) → sampledTold x ≡ answer (readingChecks r p i j) (reading asGray r p i j)
+    → first (readingChecks r p i j) ≡ 0 → (g : ℕ) × (l : ℤ) × (x ≡ sampled.Of (sample.Gray g l)) × WithinHalf (placeWeight r p i j) l
