@@ -128,8 +128,8 @@ pub extern "C" fn bore_sample_gray(
         × (now (leftover .exit) ≡ lent cs (sameLeftover g p column row) (now (leftover .entry))) ⌝ }
 {
     let filter = filter_of(block);
-    let chosen = Quantity::Gray;
-    let parts = parts_of(reading(filter, width, height, pixels, column, row, chosen));
+    let for_gray = Quantity::Gray;
+    let parts = parts_of(reading(filter, width, height, pixels, column, row, for_gray));
     if parts.refusal == 0 {
         let left = parts.leftover;
         *gray = parts.gray;
@@ -154,8 +154,8 @@ pub extern "C" fn bore_sample_sum(
         ⌜ (r ≡ first cs) × (now (sum .exit) ≡ lent cs (sameSum g p column row) (now (sum .entry))) ⌝ }
 {
     let filter = filter_of(block);
-    let chosen = Quantity::Sum;
-    let parts = parts_of(reading(filter, width, height, pixels, column, row, chosen));
+    let for_sum = Quantity::Sum;
+    let parts = parts_of(reading(filter, width, height, pixels, column, row, for_sum));
     if parts.refusal == 0 {
         *sum = parts.sum;
     }
@@ -178,8 +178,8 @@ pub extern "C" fn bore_sample_mean(
         ⌜ (r ≡ first cs) × (now (mean .exit) ≡ lent cs (sameQuotient g p column row) (now (mean .entry))) ⌝ }
 {
     let filter = filter_of(block);
-    let chosen = Quantity::Mean;
-    let parts = parts_of(reading(filter, width, height, pixels, column, row, chosen));
+    let for_mean = Quantity::Mean;
+    let parts = parts_of(reading(filter, width, height, pixels, column, row, for_mean));
     if parts.refusal == 0 {
         *mean = parts.mean;
     }

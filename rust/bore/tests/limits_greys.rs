@@ -135,9 +135,10 @@ fn rounding_turns_at_the_half() {
     }
 }
 
-/// Every sum of two greys at each of the smaller weights: the leftovers run from
-/// minus half the weight to the weight less 1 and less half the weight, both
-/// halves downwards, and back to 0 at each whole grey.
+/// Every sum that is accepted at the weights 1 to 64, and those of two greys at
+/// the weights up to 255: the leftovers run from 0 up to the weight less 1 and
+/// less half the weight, then from minus half the weight up to -1, both halves
+/// downwards, and are 0 again at each whole grey.
 #[test]
 fn leftovers_run_from_half_to_half() {
     let mut random = Random::new(9);
@@ -145,14 +146,15 @@ fn leftovers_run_from_half_to_half() {
         let filter = filter(&[width], &[]);
         let case = Case::fixed(&mut random, filter);
         let weight = i64::from(width);
-        let sums: Vec<u64> = (0..2 * u64::from(width)).collect();
-        let up = weight - weight / 2;
-        let once: Vec<i64> = (0..up).chain(up - weight..0).collect();
+        let grays = if width <= 64 { 255 } else { 2 };
+        let sums: Vec<u64> = (0..=grays * u64::from(width)).collect();
+        let once: Vec<i64> = (0..=weight - 1 - weight / 2)
+            .chain(-(weight / 2)..0)
+            .collect();
+        assert_eq!(once.len(), usize::from(width));
         let (_, leftovers) = accepted::round(&filter, &sums);
-        assert_eq!(leftovers, [&once[..], &once[..]].concat(), "weight {width}");
-        assert_eq!(once.iter().min(), Some(&-(weight / 2)), "weight {width}");
-        let most = weight - 1 - weight / 2;
-        assert_eq!(once.iter().max(), Some(&most), "weight {width}");
+        let again = once.iter().copied().cycle();
+        assert!(again.take(sums.len()).eq(leftovers), "weight {width}");
         assert_eq!(round(&case, &mut random, &sums, [sums.len(); 2]), 0);
     }
 }
