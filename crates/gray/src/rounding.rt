@@ -1,6 +1,6 @@
 // Document 01's rounding with document 02's leftover: a sum over the weight, and a row of sums.
 ghost use mathlib.Core.Path.{_≡_};
-ghost use Prim.Native.Nat.{_*_, _≤_};
+ghost use Prim.Native.Nat.{_*_, _^_, _≤_, _<_};
 ghost use lib.Dec.{ltb};
 ghost use lib.ListN.{length};
 ghost use Rattle.spec.specs.Words.{somewhere};
@@ -13,6 +13,7 @@ use crate::wrapping::wrapping_mul_u64;
 use filter::measure;
 use spec::Filter;
 use std::num::wrapping_add_u64;
+use std::num::wrapping_sub_u64;
 
 // Greys are bytes.
 const LARGEST_GRAY: u64 = 255;
@@ -107,17 +108,19 @@ pub(crate) fn round_row(by: Divisor, sums: &[u64], out: &mut [u8], leftovers: &m
     }
 }
 
-// Whether a sum is above a limit.
+// Whether a sum is above a limit. Either its upper bit is set then, or that of the limit less the sum, in 64
+// bits. These bits are counted: vectors of plain x86-64 add and shift, but have no comparison of 64 bits.
 fn over(most: u64, sums: &[u64]) -> bool
+    requires { ⌜ most < 2 ^ 63 ⌝ }
     ensures { λ r. ⌜ r ≡ somewhere (λ s. ltb most s) (now (sums .entry)) ⌝ }
 {
-    let mut found = false;
+    let mut count: u64 = 0;
     for k in 0..sums.len() {
-        if most < sums[k] {
-            found = true;
-        }
+        let sum = sums[k];
+        let room = wrapping_sub_u64(most, sum);
+        count = count + ((room >> 63) + (sum >> 63));
     }
-    found
+    count != 0
 }
 
 // The greys of a row of sums, of any length, into as many bytes, and their leftovers into as many numbers

@@ -43,7 +43,9 @@ mul-over c =
     omega (arith, k .weight, k .accepted .light)
 
 over-requires : tie.Need-over-requires
-over-requires c κs = search needs
+over-requires c κs =
+    let k = accepted (c .before .before .before) in
+    omega (arith, k .weight, k .accepted .light)
 
 -- the limit is 255 times the weight
 bright : (c : tie.After-over) → let args = c .before .before .before .before .before .before .before .before .args in c .over .result ≡ tooBright largestGray (gain (recipe (args .filter))) (args .sums .now)
