@@ -3,12 +3,12 @@
 ghost use mathlib.Core.Path.{_≡_};
 ghost use Rattle.spec.specs.Recipe.{recipe};
 ghost use Rattle.spec.specs.Picture.{picture};
-ghost use Rattle.spec.specs.Gray.{sameSum, sameGray, sameLeftover, sameQuotient};
-ghost use Rattle.spec.specs.Refusals.{first, lent, readingChecks};
+ghost use Rattle.spec.specs.Gray.{sameSum, sameGray, sameLeftover, sameQuotient, reading as readingOf};
+ghost use Rattle.spec.specs.Refusals.{first, lent, answer as answerOf, readingChecks};
 ghost use Rattle.gray.specs.Rounded.{Rounded};
 ghost use Rattle.gray.specs.Blurred.{Blurred};
 ghost use Rattle.difference.specs.Differenced.{Differenced};
-ghost use Rattle.sample.specs.Sampled.{sampledTold};
+ghost use Rattle.sample.specs.Sampled.{chosen, sampledTold};
 ghost use Rattle.blocks.specs.Given.{given};
 ghost use Rattle.gray_c.specs.Parted.{Parted};
 use blocks::filter_of;
@@ -16,6 +16,7 @@ use sample::Quantity;
 use sample::Sample;
 use sample::Sampled;
 use sample::reading;
+use spec::Filter;
 
 // The greys of a row of sums and their leftovers: 1 to 4, 7, 11.
 #[no_mangle]
@@ -110,6 +111,22 @@ fn parts_of(answer: Sampled) -> Parts
     }
 }
 
+// The reading at a picture place, in its parts.
+fn read(
+    quantity: Quantity,
+    filter: Filter,
+    width: usize,
+    height: usize,
+    pixels: &[u8],
+    column: usize,
+    row: usize,
+) -> Parts
+    ensures { λ r. let g = recipe filter in let p = picture width height (now (pixels .entry)) in
+        ⌜ Parted (answerOf (readingChecks g p column row) (readingOf (chosen quantity) g p column row)) r ⌝ }
+{
+    parts_of(reading(filter, width, height, pixels, column, row, quantity))
+}
+
 // The grey at one picture place, and its leftover: 1 to 6, 15.
 #[no_mangle]
 pub extern "C" fn bore_sample_gray(
@@ -129,7 +146,7 @@ pub extern "C" fn bore_sample_gray(
 {
     let filter = filter_of(block);
     let for_gray = Quantity::Gray;
-    let parts = parts_of(reading(filter, width, height, pixels, column, row, for_gray));
+    let parts = read(for_gray, filter, width, height, pixels, column, row);
     if parts.refusal == 0 {
         let left = parts.leftover;
         *gray = parts.gray;
@@ -155,7 +172,7 @@ pub extern "C" fn bore_sample_sum(
 {
     let filter = filter_of(block);
     let for_sum = Quantity::Sum;
-    let parts = parts_of(reading(filter, width, height, pixels, column, row, for_sum));
+    let parts = read(for_sum, filter, width, height, pixels, column, row);
     if parts.refusal == 0 {
         *sum = parts.sum;
     }
@@ -179,7 +196,7 @@ pub extern "C" fn bore_sample_mean(
 {
     let filter = filter_of(block);
     let for_mean = Quantity::Mean;
-    let parts = parts_of(reading(filter, width, height, pixels, column, row, for_mean));
+    let parts = read(for_mean, filter, width, height, pixels, column, row);
     if parts.refusal == 0 {
         *mean = parts.mean;
     }
