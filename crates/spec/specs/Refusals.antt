@@ -134,11 +134,11 @@ answer cs a = either (first cs) (accepted a) (refused (first cs))
 unfoldable pub lent : {A : Type 0} → List Check → A → A → A
 lent cs new old = either (first cs) new old
 
--- What a call with these checks answers and leaves, which makes something in its outputs, one or several, and needs so many work cells.
+-- What a call with these checks answers and leaves, which makes something in an output and needs so many work cells.
 pub record Written {A : Type 0} (cs : List Check) (made : A) (needed : ℕ) (out : A) (cells : List ℕ) (number : ℕ) (newOut : A) (newCells : List ℕ) : Type 0 where
   -- 0, or the number of the first check that holds
   pub answer : number ≡ first cs
-  -- what is made, or on a refusal what the outputs held
+  -- what is made, or on a refusal what the output held
   pub output : newOut ≡ lent cs made out
   -- the needed cells are free, and those beyond are what they were; on a refusal all are
   pub work : newCells ≡ lent cs (take needed newCells ++ drop needed cells) cells
