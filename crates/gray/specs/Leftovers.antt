@@ -1,5 +1,6 @@
 -- Document 02, S-2: the leftovers that the calls leave lie as `WithinHalf` says, over whatever the contracts admit. Each claim says that the
--- call is accepted, and that there are as many leftovers as sums or picture places, of which a picture has one at least.
+-- call is accepted, and that there are as many leftovers as sums or picture places, of which a picture has one at least. They are not
+-- empty: spec/proofs/Uneven.antt computes arguments of both calls to which no check applies (`answers`), and leftovers of both signs.
 use mathlib.Core.Path.{_≡_}
 use mathlib.Core.List.{List}
 use Prim.Native.Nat.{ℕ, _+_, _*_, _<_}

@@ -1,4 +1,4 @@
--- Words for the contract of a private function; no exported contract uses them. An answer of a reading in its parts.
+-- Words for the contracts of private functions; no exported contract uses them. An answer of a reading in its parts.
 use mathlib.Core.Path.{_≡_}
 use Rattle.spec.specs.Gray.{Reading, grayReading, sumReading, quotientReading}
 use Rattle.spec.specs.Refusals.{Answer, accepted, refused}

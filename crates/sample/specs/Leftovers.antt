@@ -12,7 +12,8 @@ use Rattle.sample.specs.declared.Sampled.{Sampled}
 use Rattle.sample.specs.declared.Sampled.the-variants as sampled
 use Rattle.sample.specs.Sampled.{sampledTold}
 
--- Whatever the contract admits as the answer where the grey is chosen and no check applies is a grey and such a leftover.
+-- Whatever the contract admits as the answer where the grey is chosen and no check applies is a grey and such a leftover. It is not empty:
+-- spec/proofs/Uneven.antt computes a place to which no check applies (`answers`), and a reading with a leftover of -2 (`readings`).
 abbrev pub ReadingFits : Type 0
 ReadingFits =
     (r : Recipe) (p : Picture) (i j : ℕ) (x : Sampled) → sampledTold x ≡ answer (readingChecks r p i j) (reading asGray r p i j)
