@@ -1,11 +1,13 @@
 -- Examples of definitions that no ◆ case reaches, each computed: the numbers of each call's checks in their order, each condition on both
 -- sides of its limit, the cells and the cost of the one pass, the levels of the ladder, joined recipes, counts of widths, recipes that are
--- told apart, leftovers, and what filters hold.
+-- told apart, leftovers, variances, and what filters hold.
 -- Assumes nothing.
 use mathlib.Core.Path.{_≡_, refl}
 use mathlib.Core.Bool.{true, false}
 use mathlib.Core.List.{List, [], _∷_, _++_, map}
 use Prim.Native.Nat.{ℕ}
+use lib.Ieee
+use lib.Ieee.{binary64}
 use lib.IntN.{pos, negsuc}
 use lib.ListN.{replicate}
 use Rattle.spec.specs.declared.Filter.{Filter}
@@ -15,7 +17,7 @@ use Rattle.spec.specs.Recipe.{Recipe, widths, recipe, held, heldFilter, 
 use Rattle.spec.specs.Picture.{Picture, picture, fullWidth, fullHeight, grown}
 use Rattle.spec.specs.Stream.{State, stateWith, boxCells, cascadeCells, streamCells, boxCost, cascadeCost, rowCost}
 use Rattle.spec.specs.Ladder.{rungs, Axes, rowsOnly, bothAxes, onAxes, ladder, rung}
-use Rattle.spec.specs.Gray.{gray, leftover}
+use Rattle.spec.specs.Gray.{gray, leftover, float, ratio, boxSquare, squares, variance}
 use Rattle.spec.specs.Job.{mark, version, read16, jobLength, jobRecipe, jobWidth, jobHeight}
 use Rattle.spec.specs.Cases.{recipeOf, twos, exampleJob}
 use Rattle.spec.specs.Refusals
@@ -202,6 +204,19 @@ pub left-over :
     ∷ (pos 0 ∷ pos 1 ∷ negsuc 0 ∷ pos 0 ∷ pos 1 ∷ negsuc 0 ∷ []) ∷ (pos 0 ∷ pos 0 ∷ []) ∷ []
 unfolding gray leftover
 left-over = refl
+
+-- n times n - 1: 0, 3, 8 up to 65,024
+pub box-squares : map boxSquare (1 ∷ 2 ∷ 3 ∷ 255 ∷ []) ≡ 0 ∷ 3 ∷ 8 ∷ 65024 ∷ []
+unfolding boxSquare
+box-squares = refl
+
+-- the bits of variances: of no width, of 1, of 255 and of the largest; of 3,4 and of 2,2,3, whose last bit is another where each width is
+-- divided by 12
+pub variances :
+    map (λ ns. Ieee.toBits binary64 (variance ns)) ([] ∷ (1 ∷ []) ∷ (255 ∷ []) ∷ (255 ∷ 2 ∷ []) ∷ (3 ∷ 4 ∷ []) ∷ (2 ∷ 2 ∷ 3 ∷ []) ∷ [])
+    ≡ 0 ∷ 0 ∷ 0x40B5_2AAA_AAAA_AAAB ∷ 0x40B5_2AEA_AAAA_AAAB ∷ 0x3FFE_AAAA_AAAA_AAAB ∷ 0x3FF2_AAAA_AAAA_AAAB ∷ []
+unfolding total float ratio boxSquare squares variance Ieee.toBits Ieee.ofInt Ieee.div Ieee.round Ieee.units Ieee.odd Ieee.size Ieee.climb Ieee.span
+variances = refl
 
 -- the coefficients of 3,2 need a slice of 4: their reach is 3
 pub coefficient-lengths :

@@ -5,7 +5,8 @@ use crate::checks::weight_of;
 use crate::work::noise;
 use bore::{Cascade, Filter};
 
-fn list(cascade: &Cascade) -> Result<&[u8], u8> {
+/// The list of a cascade, or the number of one that is too long.
+pub fn list(cascade: &Cascade) -> Result<&[u8], u8> {
     let count = usize::from(cascade.count);
     cascade.widths.get(..count).ok_or(1)
 }

@@ -6,6 +6,7 @@
 
 #![forbid(unsafe_code)]
 
+mod cards;
 mod checks;
 mod convolution;
 mod direct;
@@ -237,6 +238,8 @@ fn main() {
     climbing();
     println!();
     comparing();
+    println!();
+    cards::cards();
     println!();
     gray_tables::same_size();
     println!();

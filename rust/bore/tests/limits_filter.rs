@@ -254,7 +254,7 @@ fn sides_at_the_limits() {
     }
 }
 
-/// Every width alone: its entry in the table of n times n - 1, its cells.
+/// Every width alone: its variance by n times n - 1, its cells.
 #[test]
 fn every_width_alone() {
     let mut random = Random::new(11);
