@@ -73,7 +73,9 @@ pub fn cards() {
         rows: cascade(&[2, 2]),
         columns: cascade(&[]),
     };
-    let full = shuffled_pairs(&COMPARED, PAIRS).iter().map(|pair| pair[0]);
+    let full = shuffled_pairs(&COMPARED, PAIRS)
+        .into_iter()
+        .map(|pair| pair[0]);
     println!("| Scale card | Library, µs | Rust, µs | Library / Rust |");
     println!("|---|---|---|---|");
     for (name, filters) in [

@@ -34,7 +34,13 @@ fn line(text: &str) -> (Vec<u8>, Vec<u8>, Card) {
 fn card(filter: &Filter) -> Card {
     let m = accepted::moments(filter);
     let [along, down] = [m.row_variance, m.column_variance].map(f64::to_bits);
-    [m.gain, m.row_order as u64, m.column_order as u64, along, down]
+    [
+        m.gain,
+        m.row_order as u64,
+        m.column_order as u64,
+        along,
+        down,
+    ]
 }
 
 /// Each card as it is stored, and with the axes exchanged. The first 255 are
@@ -55,8 +61,9 @@ fn cards_keep_their_bits() {
     assert_eq!(alone.next(), None, "every width is stored");
 }
 
-/// The entries of a table by which it is known.
-const RUN: u64 = 8;
+/// So many successive entries are taken for a table, which a compiler may have
+/// cut into constants of 8 bytes.
+const RUN: u64 = 4;
 
 /// Where successive entries of a table of n times n - 1 stand in these bytes:
 /// entries of 2, 4 or 8 bytes, low byte first.
@@ -81,13 +88,17 @@ fn no_table_in_the_archive() {
 #[test]
 fn a_table_would_be_found() {
     for size in [2, 4, 8] {
-        for (from, to) in [(1, 255), (2, 9), (248, 255)] {
+        for (from, to) in [(1, 255), (2, 5), (252, 255)] {
             let mut bytes = vec![0xA5; 13];
             for n in from..=to as u64 {
                 bytes.extend(&(n * n - 1).to_le_bytes()[..size]);
             }
             bytes.push(0xA5);
-            assert_eq!(entries(&bytes), Some(13), "{from} to {to}, {size} bytes each");
+            assert_eq!(
+                entries(&bytes),
+                Some(13),
+                "{from} to {to}, {size} bytes each"
+            );
         }
     }
 }
