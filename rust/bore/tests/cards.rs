@@ -68,13 +68,12 @@ const RUN: u64 = 4;
 /// Where successive entries of a table of n times n - 1 stand in these bytes:
 /// entries of 2, 4 or 8 bytes, low byte first.
 fn entries(bytes: &[u8]) -> Option<usize> {
-    let runs = (1..=256 - RUN).flat_map(|n| [2, 4, 8].map(|size| (n, size)));
-    let mut found = runs.map(|(n, size)| {
+    let mut runs = (1..=256 - RUN).flat_map(|n| [2, 4, 8].map(|size| (n, size)));
+    runs.find_map(|(n, size)| {
         let entry = |n: u64| (n * n - 1).to_le_bytes().into_iter().take(size);
         let run: Vec<u8> = (n..n + RUN).flat_map(entry).collect();
         bytes.windows(run.len()).position(|part| part == run)
-    });
-    found.find_map(|at| at)
+    })
 }
 
 #[test]
