@@ -7,6 +7,7 @@ mod common;
 use bore::Filter;
 use common::{accepted, filter};
 use std::fs;
+use std::ops::RangeInclusive;
 use std::path::Path;
 
 /// A line has the row widths, the column widths, the weight, both reaches, and
@@ -61,17 +62,22 @@ fn cards_keep_their_bits() {
     assert_eq!(alone.next(), None, "every width is stored");
 }
 
+/// A table of n times n - 1: entries of so many bytes, low byte first.
+fn table(widths: RangeInclusive<u64>, size: usize) -> Vec<u8> {
+    let entry = |n: u64| (n * n - 1).to_le_bytes().into_iter().take(size);
+    widths.flat_map(entry).collect()
+}
+
 /// So many successive entries are taken for a table, which a compiler may have
 /// cut into constants of 8 bytes.
 const RUN: u64 = 4;
 
-/// Where successive entries of a table of n times n - 1 stand in these bytes:
-/// entries of 2, 4 or 8 bytes, low byte first.
+/// Where successive entries of such a table stand in these bytes, of 2, 4 or 8
+/// bytes each.
 fn entries(bytes: &[u8]) -> Option<usize> {
     let mut runs = (1..=256 - RUN).flat_map(|n| [2, 4, 8].map(|size| (n, size)));
     runs.find_map(|(n, size)| {
-        let entry = |n: u64| (n * n - 1).to_le_bytes().into_iter().take(size);
-        let run: Vec<u8> = (n..n + RUN).flat_map(entry).collect();
+        let run = table(n..=n + RUN - 1, size);
         bytes.windows(run.len()).position(|part| part == run)
     })
 }
@@ -86,18 +92,13 @@ fn no_table_in_the_archive() {
 /// A table is found in whole and in part, wherever it begins.
 #[test]
 fn a_table_would_be_found() {
+    let first = [0xA5, 0, 0, 3, 0, 8, 0, 15, 0, 0xA5];
+    let last = [0xA5, 0x0F, 0xF8, 0x08, 0xFA, 0x03, 0xFC, 0x00, 0xFE];
+    assert_eq!([&first[..], &last].map(entries), [Some(1); 2]);
     for size in [2, 4, 8] {
-        for (from, to) in [(1, 255), (2, 5), (252, 255)] {
-            let mut bytes = vec![0xA5; 13];
-            for n in from..=to as u64 {
-                bytes.extend(&(n * n - 1).to_le_bytes()[..size]);
-            }
-            bytes.push(0xA5);
-            assert_eq!(
-                entries(&bytes),
-                Some(13),
-                "{from} to {to}, {size} bytes each"
-            );
+        for widths in [1..=255, 2..=5, 252..=255] {
+            let bytes = [vec![0xA5; 13], table(widths, size), vec![0xA5]].concat();
+            assert_eq!(entries(&bytes), Some(13), "{size} bytes each");
         }
     }
 }
