@@ -23,10 +23,18 @@
  *
  * A picture of width by height pixels grows to full_width by full_height, each side by the order of its axis;
  * the grown size is their product. The exact sum at grown column i and row j is the sum of R[a] times C[b]
- * times the pixel at column i - a and row j - b, over all a and b. A pixel outside the picture is 0, so blurs
- * darken towards the rim. Pictures and sums stand row by row, columns and rows are counted from 0.
+ * times the pixel at column i - a and row j - b, over all a and b. A pixel outside the picture is 0. Pictures
+ * and sums stand row by row, columns and rows are counted from 0.
  *
- * Document 01, and of document 02 the fading ladder, stand as definitions in crates/spec/specs. */
+ * For a place of the picture, column x and row y, the grown sum at x plus half the rows' order and y plus half
+ * the columns' order is taken, both halves downwards. The inside weight of the place (document 02) is the sum
+ * that is taken there for a picture of the same sides whose pixels are all 1: what of the weight falls on the
+ * picture, from 1 up to the whole weight. Greys, leftovers and quotients of a place (bore_blur,
+ * bore_sample_gray, bore_sample_mean) are by its inside weight, so that a blur is as bright at the rim as
+ * elsewhere. bore_round and bore_difference are by the weight.
+ *
+ * Document 01, and of document 02 the fading ladder, the leftovers and the inside weight, stand as definitions
+ * in crates/spec/specs. */
 #ifndef BORE_H
 #define BORE_H
 
@@ -378,7 +386,8 @@ BORE_CALL bore_drain(const bore_filter *state, bore_state_words *BORE_RESTRICT w
 
 /* The greys of a row of sums: each sum over the weight, rounded to the nearest, a half upwards. And what
  * rounding left over: each sum less the weight times its grey, from minus half the weight to the weight less 1
- * and less half the weight, both halves downwards.
+ * and less half the weight, both halves downwards. The weight is that of the filter, wherever the sums come
+ * from.
  * Takes: a filter, the sums, and room for the greys and for the leftovers.
  * Refuses: 1, 2, 3, 4; 7 unless out_len and leftovers_len are sums_len; 11 where a sum is above 255 times the
  * weight.
@@ -389,9 +398,12 @@ BORE_CALL bore_round(const bore_filter *block, const uint64_t *sums, size_t sums
                      uint8_t *BORE_RESTRICT out, size_t out_len,
                      int64_t *BORE_RESTRICT leftovers, size_t leftovers_len);
 
-/* The picture blurred in its own size: at column x and row y the grey of the grown sum at x plus half the
- * rows' order and y plus half the columns' order, both halves downwards, and its leftover, as bore_round has
- * them.
+/* The picture blurred in its own size: at each place the sum that is taken for it over the inside weight of
+ * the place, rounded to the nearest, a half upwards. And what rounding left over: the sum less the inside
+ * weight times the grey, from minus half the inside weight to the inside weight less 1 and less half the
+ * inside weight, both halves downwards. The inside weight is the sum that is taken at the place for a picture
+ * of the same sides whose pixels are all 1; where all coefficients fall on the picture it is the weight, and
+ * grey and leftover are as bore_round has them.
  * Takes: a filter, a picture, room for the greys and for the leftovers, and work cells.
  * Refuses: 1, 2, 3, 4; 5 unless both sides are from 1 to 1,024; 6 unless pixels_len is width times height;
  * 7 unless out_len and leftovers_len are width times height; 8 where cells_len is below twice the grown size.
@@ -406,7 +418,8 @@ BORE_CALL bore_blur(const bore_filter *block, size_t width, size_t height,
                     uint64_t *BORE_RESTRICT cells, size_t cells_len);
 
 /* At each place of the picture the sum of a over its weight less the sum of b over its weight, rounded once
- * to the nearest, a half away from zero: from -255 to 255.
+ * to the nearest, a half away from zero: from -255 to 255. The weights are those of the filters at every
+ * place, at the rim too.
  * Takes: two filters, a picture, room for the differences, and work cells.
  * Refuses: 1, 2, 3, 4 of a; 1, 2, 3, 4 of b; 5 unless both sides are from 1 to 1,024; 6 unless pixels_len is
  * width times height; 7 unless out_len is width times height; 8 where cells_len is below twice both grown
@@ -421,7 +434,7 @@ BORE_CALL bore_difference(const bore_filter *a, const bore_filter *b, size_t wid
                           int16_t *BORE_RESTRICT out, size_t out_len,
                           uint64_t *BORE_RESTRICT cells, size_t cells_len);
 
-/* The grey that bore_blur gives at one place, and its leftover.
+/* The grey that bore_blur gives at one place, and its leftover, both by the inside weight of the place.
  * Takes: a filter, a picture, and a column and a row of it, counted from 0.
  * Refuses: 1, 2, 3, 4; 5 unless both sides are from 1 to 1,024; 6 unless pixels_len is width times height;
  * 15 for a place outside the picture.
@@ -442,7 +455,7 @@ BORE_CALL bore_sample_sum(const bore_filter *block, size_t width, size_t height,
                           const uint8_t *pixels, size_t pixels_len,
                           size_t column, size_t row, uint64_t *BORE_RESTRICT sum);
 
-/* The quotient of that sum and the weight, by one rounded division.
+/* The quotient of that sum and the inside weight of the place, by one rounded division.
  * Takes and refuses: as bore_sample_gray does.
  * Writes: mean.
  * Overlaps nothing: mean. */

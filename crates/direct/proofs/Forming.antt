@@ -4,21 +4,22 @@ use mathlib.Core.Path.{_≡_, sym, ap, ap₂, _∙_}
 use mathlib.Core.Bool.{cond, _||_}
 use mathlib.Core.List.{List}
 use Prim.Native.Nat.{ℕ, _+_, _-_, _*_, _^_, _≤_, _<_}
-use native.Mathlib.Nat.{le-trans, le-of-eq, mul-one, mul-comm, mul-le-mul, le-mul-of-pos-right}
+use native.Mathlib.Nat.{le-trans, mul-comm, mul-le-mul}
 use native.Mathlib.Omega.{arith}
 use lib.ListN.{length}
-use Rattle.spec.specs.Words.{product, total}
 use Rattle.spec.specs.Recipe.{Recipe, kernel, order, weight, gain}
 use Rattle.spec.specs.Picture.{Picture, exact, fullWidth, fullHeight, full}
 use Rattle.spec.specs.Refusals.{first, check, alone, otherPixels, otherOutput, fullSize, recipeChecks, sizeChecks, pictureChecks, kernelChecks, directChecks}
 use Rattle.laws.proofs.Numbers.{neither}
+use Rattle.laws.proofs.Convolution.{ones}
 use Rattle.laws.proofs.Kernels.{kernel-sum, length-kernel}
-use Rattle.laws.proofs.Exact.{rows-pos, columns-pos}
-use Rattle.laws.proofs.Refusals.{Accepted, AcceptedPicture, accepted-none, as-stated, not-stated, picture-sides, picture-pixels, picture-rest, first-then, first-none, none-both, recipe-numbered, picture-numbered, is-accepted-picture, same-length-so, lent-refused, lent-accepted}
+use Rattle.laws.proofs.Alone.{Light, light-alone, rows-light, columns-light}
+use Rattle.laws.proofs.Inside.{axis}
+use Rattle.laws.proofs.Refusals.{Accepted, AcceptedPicture, as-stated, not-stated, picture-sides, picture-pixels, picture-rest, first-then, first-none, none-both, recipe-numbered, picture-numbered, is-accepted-picture, same-length-so, lent-refused, lent-accepted}
 use Rattle.filter.specs.Coefficients.{KernelFilled}
 use Rattle.direct.specs.Formed.{checks, Formed}
-use Rattle.direct.specs.Windows.{window, windows, mass, Ready}
-use Rattle.direct.proofs.Weighing.{window-exact, windows-full}
+use Rattle.direct.specs.Windows.{through, window, windows, mass, Ready}
+use Rattle.direct.proofs.Weighing.{through-axis, window-exact, windows-full}
 
 module _ (r : Recipe) (p : Picture) (rows columns out : ℕ) where
   abbrev number : ℕ
@@ -95,68 +96,25 @@ is-called r p rows columns out e =
       outSize = same-length-so out (fullSize r p) (last .1);
     }
 
--- a list that is accepted as a recipe of its own
-pub record Light (ns : List ℕ) : Type 0 where
-  pub short : length ns ≤ 48
-  pub notZero : 0 < weight ns
-  pub reach : order ns ≤ 255
-  pub light : weight ns ≤ 2 ^ 44
-
-light-alone : (ns : List ℕ) → Light ns → first (recipeChecks (alone ns)) ≡ 0
-unfolding alone weight gain product order total
-light-alone ns l =
-    accepted-none (alone ns)
-    (record {
-      rowsShort = l .short;
-      columnsShort = omega arith;
-      notZero = omega (arith, l .notZero, mul-one (weight ns));
-      rowReach = l .reach;
-      columnReach = omega arith;
-      light = omega (arith, l .light, mul-one (weight ns));
-    })
-
--- the coefficients of such a list are filled in
+-- the coefficients of a list that is accepted as a recipe of its own are filled in
 filled-whole : (ns old new : List ℕ) (number : ℕ) → Light ns → length old ≡ order ns + 1 → KernelFilled ns old number new → new ≡ kernel ns
 unfolding kernelChecks otherOutput otherPixels
 filled-whole ns old new number l s f =
     let none = first-then (recipeChecks (alone ns)) _ 7 (recipe-numbered (alone ns)) (light-alone ns l) in
     f .slice ∙ lent-accepted _ (kernel ns) old (none ∙ ap (λ b. cond b 7 0) (as-stated (length old) (order ns + 1) s))
 
--- both lists of an accepted recipe are
 module _ (r : Recipe) (k : Accepted r) where
   across-pos : 0 < weight (r .rows)
-  across-pos = rows-pos r (k .notZero)
+  across-pos = rows-light r k .notZero
 
   down-pos : 0 < weight (r .columns)
-  down-pos = columns-pos r (k .notZero)
+  down-pos = columns-light r k .notZero
 
-  rows-light : Light (r .rows)
-  unfolding gain
-  rows-light =
-      record {
-        short = k .rowsShort;
-        notZero = across-pos;
-        reach = k .rowReach;
-        light = le-trans (le-mul-of-pos-right (weight (r .rows)) down-pos) (k .light);
-      }
-
-  columns-light : Light (r .columns)
-  unfolding gain
-  columns-light =
-      record {
-        short = k .columnsShort;
-        notZero = down-pos;
-        reach = k .columnReach;
-        light =
-            le-trans (le-mul-of-pos-right (weight (r .columns)) across-pos)
-            (le-trans (le-of-eq (mul-comm (weight (r .columns)) (weight (r .rows)))) (k .light));
-      }
-
-  -- and the coefficients of both are filled in
+  -- so that those of both lists of an accepted recipe are
   pub kernels-filled : (rows columns rs cs : List ℕ) (m n : ℕ) → length rows ≡ order (r .rows) + 1 → length columns ≡ order (r .columns) + 1
       → KernelFilled (r .rows) rows m rs → KernelFilled (r .columns) columns n cs → (rs ≡ kernel (r .rows)) × (cs ≡ kernel (r .columns))
   kernels-filled rows columns rs cs m n s t f g =
-      (filled-whole (r .rows) rows rs m rows-light s f, filled-whole (r .columns) columns cs n columns-light t g)
+      (filled-whole (r .rows) rows rs m (rows-light r k) s f, filled-whole (r .columns) columns cs n (columns-light r k) t g)
 
 -- Slices that hold R and C for an accepted picture, and what is formed from them.
 module _ (r : Recipe) (p : Picture) (k : AcceptedPicture r p) (rs cs : List ℕ) (a : rs ≡ kernel (r .rows)) (b : cs ≡ kernel (r .columns)) where
@@ -184,6 +142,7 @@ module _ (r : Recipe) (p : Picture) (k : AcceptedPicture r p) (rs cs : List ℕ)
         rows = (omega (arith, row-length), omega (arith, row-length, k .recipe .rowReach));
         columns = (omega (arith, column-length), omega (arith, column-length, k .recipe .columnReach));
         rowMass = le-trans row-mass (rows-light r (k .recipe) .light);
+        columnMass = le-trans column-mass (columns-light r (k .recipe) .light);
         light = le-trans (mul-le-mul row-mass column-mass) (k .recipe .light);
       }
 
@@ -199,6 +158,13 @@ module _ (r : Recipe) (p : Picture) (k : AcceptedPicture r p) (rs cs : List ℕ)
 
   pub held-exact : (sum i j : ℕ) → sum ≡ window rs cs p i j → sum ≡ exact r p i j
   held-exact sum i j e = e ∙ ap₂ (λ x y. window x y p i j) a b ∙ window-exact r p (k .recipe .notZero) i j
+
+  pub held-weight : (x y i j : ℕ) → x ≡ through rs (ones (p .width)) i → y ≡ through cs (ones (p .height)) j
+      → x * y ≡ axis (r .rows) (p .width) i * axis (r .columns) (p .height) j
+  held-weight x y i j d e =
+      ap₂ _*_
+      (d ∙ ap (λ l. through l (ones (p .width)) i) a ∙ through-axis (r .rows) (across-pos r (k .recipe)) (p .width) i)
+      (e ∙ ap (λ l. through l (ones (p .height)) j) b ∙ through-axis (r .columns) (down-pos r (k .recipe)) (p .height) j)
 
 -- on a refusal nothing is written; otherwise all is
 module _ (r : Recipe) (p : Picture) (rows columns out : List ℕ) where

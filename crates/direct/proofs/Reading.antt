@@ -1,6 +1,7 @@
--- The checks of a reading: 15 after those of the picture, what is known once none of them holds, and the sum that is then told.
+-- The checks of a reading: 15 after those of the picture, what is known once none of them holds, and the sum and the weight
+-- that are then told.
 -- Assumes nothing.
-use mathlib.Core.Path.{_≡_, refl, sym, ap, ap₂, _∙_}
+use mathlib.Core.Path.{_≡_, refl, sym, ap₂, _∙_}
 use mathlib.Core.Bool.{cond}
 use Prim.Native.Nat.{ℕ, _+_, _*_, _/_, _≤_, _<_}
 use lib.Dec.{ltb}
@@ -8,10 +9,12 @@ use lib.ListN.{length}
 use borrow.Author.Tests.{lt-ltb, le-ltb, ltb-true, not-false}
 use Rattle.spec.specs.Recipe.{Recipe, order}
 use Rattle.spec.specs.Picture.{Picture, exact}
-use Rattle.spec.specs.Gray.{sameColumn, sameRow, sameSum}
+use Rattle.spec.specs.Gray.{sameColumn, sameRow, sameSum, placeWeight}
 use Rattle.spec.specs.Refusals.{first, check, accepted, answer, outside, recipeChecks, sizeChecks, pictureChecks, readingChecks}
 use Rattle.laws.proofs.Numbers.{both}
+use Rattle.laws.proofs.Inside.{axis, inside-axes}
 use Rattle.laws.proofs.Refusals.{AcceptedPicture, answer-accepted, first-none, none-both, recipe-numbered, size-numbered, picture-numbered, picture-rest, is-accepted-picture}
+use Rattle.direct.specs.Answers.{weighedSum}
 
 -- A call to which none of 1 to 6 applies.
 module _ (r : Recipe) (p : Picture) (i j : ℕ) (none : first (sizeChecks r (p .width) (p .height)) ≡ 0) (size : length (p .pixels) ≡ p .width * p .height) where
@@ -51,9 +54,15 @@ is-inside r p i j e =
       row = ltb-true j (p .height) (within .1);
     }
 
--- the sum at the grown place of the same-size blur, by the reaches rx and ry
-pub told-same : (r : Recipe) (p : Picture) (i j rx ry sum : ℕ) → first (readingChecks r p i j) ≡ 0 → rx ≡ order (r .rows) → ry ≡ order (r .columns)
-    → sum ≡ exact r p (i + rx / 2) (j + ry / 2) → accepted sum ≡ answer (readingChecks r p i j) (sameSum r p i j)
-unfolding sameSum sameColumn sameRow
-told-same r p i j rx ry sum none a b e =
-    ap accepted (e ∙ ap₂ (λ x y. exact r p (i + x / 2) (j + y / 2)) a b) ∙ sym (answer-accepted (readingChecks r p i j) (sameSum r p i j) none)
+-- the sum and the weight at the grown place of the same-size blur, by the reaches rx and ry
+pub told-same : (r : Recipe) (p : Picture) (i j rx ry s w : ℕ) → first (readingChecks r p i j) ≡ 0 → rx ≡ order (r .rows) → ry ≡ order (r .columns)
+    → s ≡ exact r p (i + rx / 2) (j + ry / 2) → w ≡ axis (r .rows) (p .width) (i + rx / 2) * axis (r .columns) (p .height) (j + ry / 2)
+    → accepted (record { sum = s; weight = w }) ≡ answer (readingChecks r p i j) (weighedSum r p i j)
+unfolding sameSum placeWeight sameColumn sameRow
+told-same r p i j rx ry s w none a b e d =
+    ap₂ (λ x y. accepted (record { sum = x; weight = y }))
+    (e ∙ ap₂ (λ x y. exact r p (i + x / 2) (j + y / 2)) a b)
+    (d
+    ∙ ap₂ (λ x y. axis (r .rows) (p .width) (i + x / 2) * axis (r .columns) (p .height) (j + y / 2)) a b
+    ∙ sym (inside-axes r (p .width) (p .height) i j))
+    ∙ sym (answer-accepted (readingChecks r p i j) (weighedSum r p i j) none)

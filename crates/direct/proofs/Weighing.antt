@@ -1,22 +1,26 @@
--- Sequences through coefficients: a loop that adds up the terms of the window, cut to where the sequence is not 0; and the exact sum.
+-- Sequences through coefficients: a loop that adds up the terms of the window, cut to where the sequence is not 0; the sums that
+-- the inside weight is made of; and the exact sum.
 -- Assumes nothing.
-use mathlib.Core.Path.{_≡_, sym, ap, ap₂, _∙_}
+use mathlib.Core.Path.{_≡_, refl, sym, ap, ap₂, subst, _∙_}
 use mathlib.Core.List.{List, _++_, flatten}
 use Prim.Native.Nat.{ℕ, suc, _+_, _-_, _*_, _≤_, _<_, min}
-use native.Mathlib.Nat.{le-trans, le-of-eq, mul-add, mul-zero, mul-comm, mul-le-mul-left, mul-le-mul-right, suc-mul}
+use native.Mathlib.Nat.{le-trans, le-of-eq, mul-add, mul-zero, mul-one, mul-comm, mul-le-mul-left, mul-le-mul-right, suc-mul}
 use native.Mathlib.Decide.{decLe, decLt}
 use native.Mathlib.Numerals.{add-one}
 use native.Mathlib.Omega.{arith}
 use lib.ListN.{length, getD, take, drop, length-drop, List·getD-eq-default}
 use lib.Seq.{getD-take, getD-drop, length-take-le}
+use borrow.Author.Tests.{lt-ltb, le-ltb}
 use Rattle.spec.specs.Words.{sum, tab}
-use Rattle.spec.specs.Recipe.{Recipe, kernel, order, gain}
+use Rattle.spec.specs.Recipe.{Recipe, kernel, order, weight, gain}
 use Rattle.spec.specs.Picture.{Picture, exact, fullWidth, fullHeight, fullRow, full, picture}
 use Rattle.laws.proofs.Sums.{sum-agree, sum-zero, sum-grows, sum-front}
 use Rattle.laws.proofs.Lists.{tab-agree}
 use Rattle.laws.proofs.Sequences.{behind, behind-within, behind-before, behind-agree}
+use Rattle.laws.proofs.Convolution.{ones}
 use Rattle.laws.proofs.Kernels.{at, length-kernel}
 use Rattle.laws.proofs.Exact.{pixel-right, pixel-below, pixel-inside, line, across, exact-down, rows-pos, columns-pos}
+use Rattle.laws.proofs.Inside.{axis}
 use Rattle.laws.proofs.Rows.{length-rows, rows-more}
 use Rattle.laws.proofs.Slices.{Mixed}
 use Rattle.direct.specs.Windows.{through, window, windows, mass}
@@ -73,6 +77,27 @@ module _ (ks : List ℕ) (f : ℕ → ℕ) (i most : ℕ) where
             sym (sum-front term a (length ks) (omega arith)
             (λ k l g. ap (λ x. at ks k * x) (behind-before f k i (omega arith)) ∙ mul-zero (at ks k)))
       ]
+
+-- a line of n ones
+ones-within : (n k : ℕ) → k < n → ones n k ≡ 1
+unfolding ones
+ones-within n k h = rw (lt-ltb k n h) refl
+
+pub ones-past : (n k : ℕ) → n ≤ k → ones n k ≡ 0
+unfolding ones
+ones-past n k h = rw (le-ltb k n h) refl
+
+-- through the coefficients, one that is inside the line counts as it stands
+pub weighed-one : (ks : List ℕ) (n i : ℕ) {a acc : ℕ} → Weighed ks (ones n) i 1 a acc → a ≤ i → i < a + n → Weighed ks (ones n) i 1 (a + 1) (acc + at ks a)
+weighed-one ks n i {a} {acc} w h l =
+    subst (λ x. Weighed ks (ones n) i 1 (a + 1) (acc + x)) (mul-one (at ks a))
+    (weighed-more ks (ones n) i 1 1 w h (sym (ones-within n (i - a) (omega arith))) (omega arith))
+
+-- and through R or C such a line is one of the two sums that the inside weight is made of
+pub through-axis : (ns : List ℕ) → 0 < weight ns → (n i : ℕ) → through (kernel ns) (ones n) i ≡ axis ns n i
+unfolding through axis
+through-axis ns h n i =
+    ap (λ m. sum m (λ a. at (kernel ns) a * behind (ones n) a i)) (length-kernel ns h ∙ add-one (order ns))
 
 -- sequences that agree
 pub through-agree : (ks : List ℕ) (f g : ℕ → ℕ) (i : ℕ) → ((k : ℕ) → f k ≡ g k) → through ks f i ≡ through ks g i

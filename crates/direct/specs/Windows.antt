@@ -33,4 +33,5 @@ pub record Ready (rs cs : List ℕ) (p : Picture) : Type 0 where
   pub rows : (0 < length rs) × (length rs ≤ 256)
   pub columns : (0 < length cs) × (length cs ≤ 256)
   pub rowMass : mass rs ≤ 2 ^ 44
+  pub columnMass : mass cs ≤ 2 ^ 44
   pub light : mass rs * mass cs ≤ 2 ^ 44

@@ -1,22 +1,30 @@
-// The exact sum at one picture place, formed from the window alone.
+// The exact sum and the inside weight at one picture place, formed from the window alone.
 ghost use mathlib.Core.Path.{_≡_};
 ghost use mathlib.Core.List.{List};
-ghost use Prim.Native.Nat.{ℕ, _+_, _<_};
+ghost use Prim.Native.Nat.{ℕ, _+_, _*_, _<_};
 ghost use lib.ListN.{length};
 ghost use Rattle.spec.specs.Recipe.{recipe, order};
 ghost use Rattle.spec.specs.Picture.{picture, exact};
-ghost use Rattle.spec.specs.Gray.{sameSum};
 ghost use Rattle.spec.specs.Refusals.{first, answer, readingChecks};
+ghost use Rattle.laws.proofs.Inside.{axis};
 ghost use Rattle.laws.proofs.Refusals.{AcceptedPicture};
-ghost use Rattle.direct.specs.Answers.{pointTold};
+ghost use Rattle.direct.specs.Answers.{weighedSum, pointTold};
 use crate::sums::down;
+use crate::sums::inside;
 use filter::FullSize;
 use spec::Filter;
 
-// The exact sum that the same-size blur takes at one picture place, or the number of the refusal.
+// The exact sum that the same-size blur takes at one picture place, and the inside weight there, or the
+// number of the refusal.
 pub enum Point {
-    Sum(u64),
+    At { sum: u64, weight: u64 },
     Refused(u8),
+}
+
+// The exact sum over a window, and the weight of the part of it that is inside the picture.
+struct Window {
+    sum: u64,
+    weight: u64,
 }
 
 // The number of the first of 1 to 6 and 15 that applies, 0 where none does, by the length of the slice
@@ -51,7 +59,7 @@ fn refusal(
     }
 }
 
-// The sum at grown column i, row j, with R and C filled into slices of exactly their lengths.
+// The window at grown column i, row j, with R and C filled into slices of exactly their lengths.
 fn window_sum(
     filter: Filter,
     width: usize,
@@ -61,19 +69,23 @@ fn window_sum(
     columns: &mut [u64],
     i: usize,
     j: usize,
-) -> u64
+) -> Window
     requires { ⌜ AcceptedPicture (recipe filter) (picture width height (now pixels)) ⌝ }
     requires { ⌜ (length (now rows) ≡ order (recipe filter .rows) + 1) × (length (now columns) ≡ order (recipe filter .columns) + 1) ⌝ }
     requires { ⌜ (i < width + order (recipe filter .rows)) × (j < height + order (recipe filter .columns)) ⌝ }
-    ensures { λ r. ⌜ r ≡ exact (recipe filter) (picture width height (now (pixels .entry))) i j ⌝ }
+    ensures { λ r. ⌜ r .sum ≡ exact (recipe filter) (picture width height (now (pixels .entry))) i j ⌝ }
+    ensures { λ r. ⌜ r .weight ≡ axis (recipe filter .rows) width i * axis (recipe filter .columns) height j ⌝ }
 {
     filter::kernel(filter.rows, rows);
     filter::kernel(filter.columns, columns);
-    down(pixels, width, height, rows, columns, i, j)
+    Window {
+        sum: down(pixels, width, height, rows, columns, i, j),
+        weight: inside(rows, i, width) * inside(columns, j, height),
+    }
 }
 
-// The exact sum that the same-size blur takes at a picture place, from the window alone, cut to the
-// picture: refused by 1 to 6 and 15.
+// The exact sum that the same-size blur takes at a picture place, and the inside weight there, from the
+// window alone, cut to the picture: refused by 1 to 6 and 15.
 pub fn point_sum(
     filter: Filter,
     width: usize,
@@ -83,7 +95,7 @@ pub fn point_sum(
     row: usize,
 ) -> Point
     ensures { λ r. let p = picture width height (now (pixels .entry)) in
-        ⌜ pointTold r ≡ answer (readingChecks (recipe filter) p column row) (sameSum (recipe filter) p column row) ⌝ }
+        ⌜ pointTold r ≡ answer (readingChecks (recipe filter) p column row) (weighedSum (recipe filter) p column row) ⌝ }
 {
     let number = refusal(filter, width, height, pixels.len(), column, row);
     if number != 0 {
@@ -97,7 +109,7 @@ pub fn point_sum(
     let column_end = ry + 1;
     let mut row_kernel = [0u64; 256];
     let mut column_kernel = [0u64; 256];
-    Point::Sum(window_sum(
+    let found = window_sum(
         filter,
         width,
         height,
@@ -106,5 +118,9 @@ pub fn point_sum(
         &mut column_kernel[z..column_end],
         column + rx / 2,
         row + ry / 2,
-    ))
+    );
+    Point::At {
+        sum: found.sum,
+        weight: found.weight,
+    }
 }

@@ -4,6 +4,7 @@ ghost use Prim.Native.Nat.{_+_, _-_, _*_, _<_, _≤_, _^_, min};
 ghost use lib.ListN.{length};
 ghost use Rattle.spec.specs.Words.{tab};
 ghost use Rattle.spec.specs.Picture.{picture};
+ghost use Rattle.laws.proofs.Convolution.{ones};
 ghost use Rattle.laws.proofs.Kernels.{at};
 ghost use Rattle.direct.specs.Windows.{through, window, windows, mass, Ready};
 
@@ -39,6 +40,21 @@ fn across(line: &[u8], kernel: &[u64], i: usize) -> u64
     let mut a = window_start(i, line.len());
     while a < end {
         total += kernel[a] * wide(line[i - a]);
+        a += 1;
+    }
+    total
+}
+
+// The coefficients of the window at i that fall inside a line of n places, added up.
+pub(crate) fn inside(kernel: &[u64], i: usize, n: usize) -> u64
+    requires { ⌜ (0 < n) × (i + 1 < n + length (now kernel)) × (mass (now kernel) ≤ 2 ^ 44) ⌝ }
+    ensures { λ r. ⌜ (r ≡ through (now (kernel .entry)) (ones n) i) × (r ≤ mass (now (kernel .entry))) ⌝ }
+{
+    let end = window_end(i, kernel.len());
+    let mut total: u64 = 0;
+    let mut a = window_start(i, n);
+    while a < end {
+        total += kernel[a];
         a += 1;
     }
     total

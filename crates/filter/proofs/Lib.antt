@@ -1,3 +1,4 @@
 pub mod Refusal
 pub mod Widths
 pub mod Filling
+pub mod Axes

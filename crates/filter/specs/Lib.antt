@@ -1,3 +1,4 @@
 pub mod Measured
 pub mod Answers
 pub mod Coefficients
+pub mod Axis

@@ -25,7 +25,7 @@ fn impulse(out: &mut [u64])
 }
 
 // Each entry and all before it, added up.
-fn accumulate(out: &mut [u64])
+pub(crate) fn accumulate(out: &mut [u64])
     requires { ⌜ sum (length (now out)) (at (now out)) ≤ 2 ^ 44 ⌝ }
     ensures { λ r. ⌜ now (out .exit) ≡ tab (length (now (out .entry))) (running (at (now (out .entry)))) ⌝ }
 {
@@ -56,7 +56,7 @@ fn places(n: u8) -> usize
 }
 
 // The coefficients of a cascade, box by box, as far as the slice goes.
-fn convolve(list: Cascade, out: &mut [u64])
+pub(crate) fn convolve(list: Cascade, out: &mut [u64])
     requires { ⌜ (list .count ≤ 48) × (0 < weight (widths list)) × (weight (widths list) ≤ 2 ^ 44) ⌝ }
     ensures { λ r. ⌜ now (out .exit) ≡ tab (length (now (out .entry))) (at (kernelOf (widths list))) ⌝ }
 {

@@ -14,7 +14,7 @@ pub enum FullSize {
 }
 
 // A side of 0 or above 1,024.
-fn bad_side(n: usize) -> bool
+pub(crate) fn bad_side(n: usize) -> bool
     ensures { λ r. ⌜ r ≡ badSide n ⌝ }
 {
     if n == 0 { true } else { 1024 < n }

@@ -1,16 +1,23 @@
 -- Rounding: that a shift divides by a weight with a single bit set and a reciprocal by any other, so that a quotient over an accepted weight
--- is the grey, how large that is, and that the nearest whole number is rounded alike.
+-- is the grey, how large that is, and that the nearest whole number is rounded alike; and what is made of one sum and of a row of them.
 -- Assumes nothing.
 use mathlib.Core.Path.{_≡_, refl, sym, ap, subst, _∙_}
 use mathlib.Core.Bool.{Bool, true, false, cond}
-use Prim.Native.Nat.{ℕ, zero, suc, _+_, _*_, _/_, _%_, _^_, _≤_, _<_}
-use native.Mathlib.Nat.{mod-eq-of-lt, mul-le-mul-left, mul-le-mul-right, mul-lt-mul-of-pos-right, le-of-mul-le-mul-right, lt-of-mul-lt-mul-right, mul-add, add-mul, suc-mul, mul-assoc, mul-right-comm, div-mul-le-self, mul-div-le, lt-div-mul-add, le-div-iff-mul-le, div-lt-iff-lt-mul, div-eq-of-lt-le, div-div-eq-div-mul, pow-zero, pow-suc, le-of-suc-le-suc}
+use mathlib.Core.List.{List, map}
+use Prim.Native.Nat.{ℕ, zero, suc, _+_, _-_, _*_, _/_, _%_, _^_, _≤_, _<_}
+use native.Mathlib.Nat.{mod-eq-of-lt, mul-comm, mul-le-mul, mul-le-mul-left, mul-le-mul-right, mul-lt-mul-of-pos-right, le-of-mul-le-mul-right, lt-of-mul-lt-mul-right, mul-add, add-mul, suc-mul, mul-assoc, mul-right-comm, div-mul-le-self, mul-div-le, lt-div-mul-add, le-div-iff-mul-le, div-lt-iff-lt-mul, div-eq-of-lt-le, div-div-eq-div-mul, pow-zero, pow-suc, le-of-suc-le-suc}
 use native.Mathlib.Omega.{arith}
-use borrow.Author.Tests.{eqb-true, leb-true, leb-false}
-use lib.Dec.{eqb, leb}
+use native.Mathlib.Decide.{decLe}
+use borrow.Author.Tests.{eqb-true, leb-true, leb-false, lt-ltb, le-ltb}
+use lib.Dec.{eqb, leb, ltb}
 use lib.Count.{ones, ones-step, trailingZeros, under}
-use Rattle.spec.specs.Gray.{gray, nearest}
-use Rattle.gray.specs.Division.{reciprocalBits, divisor, estimate, byReciprocal, quotient, Divides}
+use lib.IntN.{pos, _-ℤ_}
+use lib.ListN.{length, getD}
+use Rattle.spec.specs.Picture.{largestGray}
+use Rattle.spec.specs.Gray.{gray, leftover, grays, leftovers, nearest}
+use Rattle.laws.proofs.Lists.{tab-agree, tab-map}
+use Rattle.laws.proofs.Signed.{not-below-is, same-apart}
+use Rattle.gray.specs.Division.{reciprocalBits, divisor, estimate, byReciprocal, quotient, multiple, signed64, shadeGray, shadeLeftover, Divides, Bounded}
 use Rattle.gray.specs.declared.rounding.Divisor.{Divisor}
 
 -- a number below 2^k with no bit set
@@ -184,3 +191,62 @@ unfolding nearest gray
 nearest-gray m d =
     let e : (2 * m + d) / 2 ≡ m + d / 2 = omega arith in
     sym (div-div-eq-div-mul (2 * m + d) 2 d) ∙ ap (λ x. x / d) e
+
+-- ---- what is made of one sum
+
+-- a difference of two numbers below 2^63, in 64 bits and read with a sign
+signed-apart : (s p : ℕ) → s < 2 ^ 63 → p < 2 ^ 63 → signed64 ((s + (2 ^ 64 - p)) % 2 ^ 64) ≡ pos s -ℤ pos p
+unfolding signed64
+signed-apart s p h l =
+    elim (decLe p s) [
+      | yes g ↦
+          let e : (s + (2 ^ 64 - p)) % 2 ^ 64 ≡ s - p = omega arith in
+          ap (λ n. cond (ltb n (2 ^ 63)) (pos n) (pos n -ℤ pos (2 ^ 64))) e
+          ∙ ap (λ b. cond b (pos (s - p)) (pos (s - p) -ℤ pos (2 ^ 64))) (lt-ltb (s - p) (2 ^ 63) (omega arith))
+          ∙ sym (not-below-is s p g)
+      | no g ↦
+          let n : ℕ = s + (2 ^ 64 - p) in
+          let e : n % 2 ^ 64 ≡ n = omega arith in
+          ap (λ n. cond (ltb n (2 ^ 63)) (pos n) (pos n -ℤ pos (2 ^ 64))) e
+          ∙ ap (λ b. cond b (pos n) (pos n -ℤ pos (2 ^ 64))) (le-ltb n (2 ^ 63) (omega arith))
+          ∙ same-apart n (2 ^ 64) s p (omega arith)
+    ]
+
+-- so many weights of a grey that is a byte
+multiple-is : (w : ℕ) (by : Divisor) → Divides w by → (count : ℕ) → count ≤ 255 → (multiple by count ≡ count * w) × (count * w ≤ 255 * 2 ^ 44)
+unfolding multiple
+multiple-is w by d count byte =
+    let small : count * w ≤ 255 * 2 ^ 44 = mul-le-mul byte (d .light) in
+    (go (by .single) refl small, small)
+  where
+    go : (b : Bool) → by .single ≡ b → count * w ≤ 255 * 2 ^ 44 → cond b (count * 2 ^ (by .shift % 64) % 2 ^ 64) (count * by .weight % 2 ^ 64) ≡ count * w
+    go true e small =
+        let q = single-shift w by d e in
+        let is : count * 2 ^ (by .shift % 64) ≡ count * w = ap (λ n. count * n) (ap (λ k. 2 ^ k) (mod-eq-of-lt (q .1)) ∙ q .0) in
+        ap (λ n. n % 2 ^ 64) is ∙ mod-eq-of-lt (omega arith)
+    go false e small = ap (λ n. count * n % 2 ^ 64) (own-weight w by d) ∙ mod-eq-of-lt (omega arith)
+
+-- the grey and the leftover, where the weight is not 0 and at most 2^44 and the sum at most the largest grey times it
+pub shade-is : (w : ℕ) (by : Divisor) → Divides w by → (s : ℕ) → s ≤ largestGray * w → (shadeGray by s ≡ gray w s) × (shadeLeftover by s ≡ leftover w s)
+unfolding shadeGray shadeLeftover leftover
+shade-is w by d s bounded =
+    let is = rounded-gray largestGray w by d (record { fits = omega arith; near = omega arith }) s (quotient by s) bounded refl in
+    let m = multiple-is w by d (quotient by s) (is .1) in
+    let product : multiple by (quotient by s) ≡ w * gray w s = m .0 ∙ mul-comm (quotient by s) w ∙ ap (λ q. w * q) (is .0) in
+    let low : w * gray w s < 2 ^ 63 = omega (arith, sym product ∙ m .0, m .1) in (
+      mod-eq-of-lt (omega (arith, is .1)) ∙ is .0,
+      ap (λ p. signed64 ((s + (2 ^ 64 - p)) % 2 ^ 64)) product ∙ signed-apart s (w * gray w s) (omega (arith, d .light)) low,
+    )
+
+-- and so of a row of sums
+pub shades-are : (w : ℕ) (by : Divisor) → Divides w by → (sums : List ℕ) → Bounded largestGray w sums
+    → (map (shadeGray by) sums ≡ grays w sums) × (map (shadeLeftover by) sums ≡ leftovers w sums)
+unfolding grays leftovers
+shades-are w by d sums b =
+    (each (shadeGray by) (gray w) (λ s h. shade-is w by d s h .0), each (shadeLeftover by) (leftover w) (λ s h. shade-is w by d s h .1))
+  where
+    each : {A : Type 0} (f g : ℕ → A) → ((s : ℕ) → s ≤ largestGray * w → f s ≡ g s) → map f sums ≡ map g sums
+    each f g same =
+        sym (tab-map f 0 sums)
+        ∙ tab-agree (length sums) (λ k. f (getD sums k 0)) (λ k. g (getD sums k 0)) (λ k h. same (getD sums k 0) (b k))
+        ∙ tab-map g 0 sums

@@ -17,8 +17,9 @@ use Rattle.spec.specs.Gray.{grays, leftovers}
 use Rattle.spec.specs.Refusals.{check, first, otherOutput, tooBright, recipeChecks, roundChecks}
 use Rattle.laws.proofs.Lists.{tab-map, nowhere}
 use Rattle.laws.proofs.Refusals.{first-rest, recipe-numbered, by-outputs, by-second-output, after-outputs, lent-refused, lent-accepted}
-use Rattle.gray.specs.Division.{Bounded}
-use Rattle.gray.specs.Rounded.{Rounded, checks}
+use Rattle.gray.specs.Division.{shadeGray, shadeLeftover, Bounded}
+use Rattle.gray.specs.declared.rounding.Divisor.{Divisor}
+use Rattle.gray.specs.Rounded.{lengthChecks, Shaded, Rounded, checks}
 
 -- sums of which none is above the limit
 pub none-bright : (most weight : ℕ) (sums : List ℕ) → tooBright most weight sums ≡ false → Bounded most weight sums
@@ -71,3 +72,29 @@ module _ (r : Recipe) (sums out : List ℕ) (left : List ℤ) where
 -- what is made of each sum of a row, place by place
 pub all-made : {A : Type 0} (f : ℕ → A) (n : ℕ) (sums : List ℕ) (new : List A) → n ≡ length sums → new ≡ tab n (λ k. f (getD sums k 0)) → new ≡ map f sums
 all-made f n sums new e d = d ∙ ap (λ m. tab m (λ k. f (getD sums k 0))) e ∙ tab-map f 0 sums
+
+-- rounding by a divisor: 7 for the first output, 7 for the second, and otherwise what is made
+module _ (by : Divisor) (sums out : List ℕ) (left : List ℤ) where
+  -- on a refusal nothing is written
+  seven : first (lengthChecks sums out left) ≡ 7 → Shaded by sums out left 7 out left
+  seven e = record { answer = sym e; grays = sym (lent-refused _ _ out 7 e (λ z. omega arith)); leftovers = sym (lent-refused _ _ left 7 e (λ z. omega arith)) }
+
+  pub shaded-first : (length out ≡ length sums → ⊥) → Shaded by sums out left 7 out left
+  shaded-first h = seven (by-outputs [] (length out) (length left) (length sums) h)
+
+  pub shaded-second : length out ≡ length sums → (length left ≡ length sums → ⊥) → Shaded by sums out left 7 out left
+  shaded-second e h = seven (by-second-output [] (length out) (length left) (length sums) e h)
+
+  none : length out ≡ length sums → length left ≡ length sums → first (lengthChecks sums out left) ≡ 0
+  unfolding first
+  none e f = after-outputs [] (length out) (length left) (length sums) e f
+
+  pub shaded-all : length out ≡ length sums → length left ≡ length sums → {new : List ℕ} {newLeft : List ℤ}
+      → new ≡ map (shadeGray by) sums → newLeft ≡ map (shadeLeftover by) sums → Shaded by sums out left 0 new newLeft
+  shaded-all e f d g =
+      record { answer = sym (none e f); grays = d ∙ sym (lent-accepted _ _ out (none e f)); leftovers = g ∙ sym (lent-accepted _ _ left (none e f)) }
+
+  pub shaded-made : (number : ℕ) (new : List ℕ) (newLeft : List ℤ) → Shaded by sums out left number new newLeft → length out ≡ length sums → length left ≡ length sums
+      → (new ≡ map (shadeGray by) sums) × (newLeft ≡ map (shadeLeftover by) sums)
+  shaded-made number new newLeft told e f =
+      (told .grays ∙ lent-accepted _ _ out (none e f), told .leftovers ∙ lent-accepted _ _ left (none e f))

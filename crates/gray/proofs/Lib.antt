@@ -1,4 +1,3 @@
 pub mod Dividing
 pub mod Grays
-pub mod Answering
 pub mod Leftovers

@@ -1,4 +1,3 @@
 pub mod Division
 pub mod Rounded
-pub mod Blurred
 pub mod Leftovers

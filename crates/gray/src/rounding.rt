@@ -1,14 +1,11 @@
 // Document 01's rounding with document 02's leftover: a sum over the weight, and a row of sums.
 ghost use mathlib.Core.Path.{_≡_};
-ghost use Prim.Native.Nat.{_*_, _^_, _≤_, _<_};
+ghost use Prim.Native.Nat.{_^_, _<_};
 ghost use lib.Dec.{ltb};
-ghost use lib.ListN.{length};
 ghost use Rattle.spec.specs.Words.{somewhere};
 ghost use Rattle.spec.specs.Recipe.{recipe};
-ghost use Rattle.spec.specs.Picture.{largestGray};
-ghost use Rattle.spec.specs.Gray.{gray, leftover, grays, leftovers as leftoversOf};
-ghost use Rattle.gray.specs.Division.{divisor, byReciprocal, quotient, Divides, Bounded};
-ghost use Rattle.gray.specs.Rounded.{Rounded};
+ghost use Rattle.gray.specs.Division.{reciprocalOf, divisorWith, divisor, byReciprocal, quotient, signed64, shadeGray, shadeLeftover};
+ghost use Rattle.gray.specs.Rounded.{Shaded, Rounded};
 use crate::wrapping::wrapping_mul_u64;
 use filter::measure;
 use spec::Filter;
@@ -31,14 +28,21 @@ pub struct Divisor {
     pub shift: u32,
 }
 
-pub fn divisor_of(weight: u64) -> Divisor
-    ensures { λ r. ⌜ r ≡ divisor weight ⌝ }
+// 2^55 over a weight, downwards, or 0 for a weight of 0.
+pub fn reciprocal_of(weight: u64) -> u64
+    ensures { λ r. ⌜ r ≡ reciprocalOf weight ⌝ }
 {
-    let reciprocal = if weight == 0 {
+    if weight == 0 {
         0
     } else {
         (1u64 << RECIPROCAL_BITS) / weight
-    };
+    }
+}
+
+// A weight to divide by, whose reciprocal was found before.
+pub fn divisor_with(weight: u64, reciprocal: u64) -> Divisor
+    ensures { λ r. ⌜ r ≡ divisorWith weight reciprocal ⌝ }
+{
     Divisor {
         weight,
         half: weight / 2,
@@ -46,6 +50,12 @@ pub fn divisor_of(weight: u64) -> Divisor
         single: u64::count_ones(weight) == 1,
         shift: u64::trailing_zeros(weight),
     }
+}
+
+pub fn divisor_of(weight: u64) -> Divisor
+    ensures { λ r. ⌜ r ≡ divisor weight ⌝ }
+{
+    divisor_with(weight, reciprocal_of(weight))
 }
 
 // The quotient by the reciprocal. The estimate is the quotient or one less, and the next multiple of the
@@ -71,41 +81,57 @@ pub fn rounded(sum: u64, by: Divisor) -> u64
     }
 }
 
+// A number of 64 bits, read with a sign.
+fn signed(n: u64) -> i64
+    ensures { λ r. ⌜ r ≡ signed64 n ⌝ }
+{
+    if n < 9_223_372_036_854_775_808 {
+        n as i64
+    } else {
+        -((18_446_744_073_709_551_615 - n) as i64) - 1
+    }
+}
+
 // A grey, and the leftover of its sum.
 pub struct Shade {
     pub gray: u8,
     pub leftover: i64,
 }
 
-// Rounds one sum: its grey, and the leftover, sum less weight times grey. The product is formed by the
-// shift where the quotient is.
-fn round_one(sum: u64, by: Divisor) -> Shade
-    requires { ⌜ Divides (by .weight) by × (sum ≤ largestGray * by .weight) ⌝ }
-    ensures { λ r. ⌜ (r .gray ≡ gray (by .weight) sum) × (r .leftover ≡ leftover (by .weight) sum) ⌝ }
+// Rounds one sum by a divisor from `divisor_of`: its grey, and the leftover, sum less weight times grey,
+// where the weight is at most 2^44 and the sum at most 255 times it. The product is formed by the shift
+// where the quotient is.
+pub fn round_one(sum: u64, by: Divisor) -> Shade
+    ensures { λ r. ⌜ (r .gray ≡ shadeGray by sum) × (r .leftover ≡ shadeLeftover by sum) ⌝ }
 {
     let quotient = rounded(sum, by);
     let product = if by.single {
-        quotient << by.shift
+        quotient << (by.shift % 64)
     } else {
-        quotient * by.weight
+        wrapping_mul_u64(quotient, by.weight)
     };
-    let gray = quotient as u8;
-    let leftover = (sum as i64) - (product as i64);
+    let gray = (quotient % 256) as u8;
+    let leftover = signed(wrapping_sub_u64(sum, product));
     Shade { gray, leftover }
 }
 
-// The greys of a row of sums, and their leftovers.
-pub(crate) fn round_row(by: Divisor, sums: &[u64], out: &mut [u8], leftovers: &mut [i64])
-    requires { ⌜ Divides (by .weight) by × Bounded largestGray (by .weight) (now sums)
-        × (length (now out) ≡ length (now sums)) × (length (now leftovers) ≡ length (now sums)) ⌝ }
-    ensures { λ r. ⌜ (now (out .exit) ≡ grays (by .weight) (now (sums .entry))) × (now (leftovers .exit) ≡ leftoversOf (by .weight) (now (sums .entry))) ⌝ }
+// So each sum of a row, of any length, into as many bytes and as many numbers behind them: refused by 7.
+pub fn round_row(by: Divisor, sums: &[u64], out: &mut [u8], leftovers: &mut [i64]) -> u8
+    ensures { λ r. ⌜ Shaded by (now (sums .entry)) (now (out .entry)) (now (leftovers .entry)) r (now (out .exit)) (now (leftovers .exit)) ⌝ }
 {
+    if sums.len() != out.len() {
+        return 7;
+    }
+    if sums.len() != leftovers.len() {
+        return 7;
+    }
     for k in 0..sums.len() {
         let shade = round_one(sums[k], by);
         let leftover = shade.leftover;
         out[k] = shade.gray;
         leftovers[k] = leftover;
     }
+    0
 }
 
 // Whether a sum is above a limit. Either its upper bit is set then, or that of the limit less the sum, in 64

@@ -6,7 +6,7 @@ ghost use Rattle.spec.specs.Picture.{picture};
 ghost use Rattle.spec.specs.Gray.{sameSum, sameGray, sameLeftover, sameQuotient, reading as readingOf};
 ghost use Rattle.spec.specs.Refusals.{first, lent, answer as answerOf, readingChecks};
 ghost use Rattle.gray.specs.Rounded.{Rounded};
-ghost use Rattle.gray.specs.Blurred.{Blurred};
+ghost use Rattle.blur.specs.Blurred.{Blurred};
 ghost use Rattle.difference.specs.Differenced.{Differenced};
 ghost use Rattle.sample.specs.Sampled.{chosen, sampledTold};
 ghost use Rattle.blocks.specs.Given.{given};
@@ -32,7 +32,7 @@ pub extern "C" fn bore_round(
     gray::round(filter_of(block), sums, out, leftovers)
 }
 
-// The blur of a picture in its own size, and its leftovers: 1 to 8.
+// The blur of a picture in its own size, by the inside weight, and its leftovers: 1 to 8.
 #[no_mangle]
 pub extern "C" fn bore_blur(
     block: &[u8; 98],
@@ -47,7 +47,7 @@ pub extern "C" fn bore_blur(
         (now (out .entry)) (now (leftovers .entry)) (now (cells .entry)) r (now (out .exit)) (now (leftovers .exit)) (now (cells .exit)) ⌝ }
 {
     let filter = filter_of(block);
-    gray::blur(filter, width, height, pixels, out, leftovers, cells)
+    blur::blur(filter, width, height, pixels, out, leftovers, cells)
 }
 
 // The difference of two recipes at each picture place: the first's 1 to 4, then the second's 1 to 4, then
@@ -179,7 +179,7 @@ pub extern "C" fn bore_sample_sum(
     parts.refusal
 }
 
-// The quotient of sum and weight at one picture place: 1 to 6, 15.
+// The quotient of sum and inside weight at one picture place: 1 to 6, 15.
 #[no_mangle]
 pub extern "C" fn bore_sample_mean(
     block: &[u8; 98],

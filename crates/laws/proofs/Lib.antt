@@ -13,8 +13,10 @@ pub mod Counts
 pub mod Integrators
 pub mod Spreads
 pub mod Exact
+pub mod Alone
 pub mod Flat
 pub mod Joining
 pub mod Ladder
+pub mod Inside
 pub mod Ranges
 pub mod Sameness

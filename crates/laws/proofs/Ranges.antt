@@ -15,6 +15,7 @@ use Rattle.spec.specs.Ranges.{SumsFit, DifferencesFit, LeftoversFit, SameLeftov
 use Rattle.laws.proofs.Signed.{not-below-is, same-apart, apart-grows, negated-is}
 use Rattle.laws.proofs.Refusals.{is-accepted-picture}
 use Rattle.laws.proofs.Exact.{exact-small}
+use Rattle.laws.proofs.Inside.{inside-fits}
 
 -- a sum of at most a largest grey times its own weight, times another weight
 pub times-other : (most own other s : ℕ) → s ≤ most * own → s * other ≤ most * (own * other)
@@ -69,5 +70,5 @@ leftovers-fit w s positive =
     )
 
 pub same-leftovers-fit : SameLeftoversFit
-unfolding placeWeight sameLeftover
-same-leftovers-fit r p e i j h l = leftovers-fit (gain r) (sameSum r p i j) (is-accepted-picture r p e .recipe .notZero)
+unfolding sameLeftover
+same-leftovers-fit r p e i j h l = leftovers-fit (placeWeight r p i j) (sameSum r p i j) (inside-fits r p e i j h l .0)

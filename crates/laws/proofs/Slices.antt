@@ -179,6 +179,56 @@ length-lent from n l h =
     let size : from + n - from ≡ n = omega arith in
     length-take-le (from + n - from) (drop from l) (omega (arith, length-drop from l)) ∙ size
 
+-- a part of a list that is lent, from a to e: how long it is, what stands in it, and in the list once the part has come back as ys
+module _ {A : Type 0} (d : A) (xs : List A) (a e : ℕ) (h : a ≤ e) (l : e ≤ length xs) where
+  pub length-between : length (take (e - a) (drop a xs)) ≡ e - a
+  length-between = length-take-le (e - a) (drop a xs) (omega (arith, length-drop a xs))
+
+  pub getD-between : (k : ℕ) → k < e - a → getD (take (e - a) (drop a xs)) k d ≡ getD xs (a + k) d
+  getD-between k g = getD-take (e - a) (drop a xs) k d g ∙ getD-drop a xs k d
+
+  module _ (ys : List A) where
+    kept : length (take a xs) ≡ a
+    kept = length-take-le a xs (omega arith)
+
+    pub came-before : (k : ℕ) → k < a → getD (take a xs ++ (ys ++ drop (e - a) (drop a xs))) k d ≡ getD xs k d
+    came-before k g = List·getD-append (take a xs) _ d k (omega (arith, kept)) ∙ getD-take a xs k d g
+
+    pub came-inside : (k : ℕ) → a ≤ k → k < a + length ys → getD (take a xs ++ (ys ++ drop (e - a) (drop a xs))) k d ≡ getD ys (k - a) d
+    came-inside k g i =
+        let is : k ≡ length (take a xs) + (k - a) = omega (arith, kept) in
+        ap (λ n. getD (take a xs ++ (ys ++ drop (e - a) (drop a xs))) n d) is
+        ∙ getD-append-add (take a xs) (ys ++ drop (e - a) (drop a xs)) (k - a) d
+        ∙ List·getD-append ys _ d (k - a) (omega arith)
+
+    module _ (many : length ys ≡ e - a) where
+      pub length-came : length (take a xs ++ (ys ++ drop (e - a) (drop a xs))) ≡ length xs
+      length-came =
+          omega (
+            arith,
+            kept,
+            length-append (take a xs) (ys ++ drop (e - a) (drop a xs)),
+            length-append ys (drop (e - a) (drop a xs)),
+            length-drop (e - a) (drop a xs),
+            length-drop a xs,
+          )
+
+      pub came-after : (k : ℕ) → e ≤ k → getD (take a xs ++ (ys ++ drop (e - a) (drop a xs))) k d ≡ getD xs k d
+      came-after k g =
+          let is : k ≡ length (take a xs) + (length ys + (k - e)) = omega (arith, kept) in
+          let back : a + ((e - a) + (k - e)) ≡ k = omega arith in
+          ap (λ n. getD (take a xs ++ (ys ++ drop (e - a) (drop a xs))) n d) is
+          ∙ getD-append-add (take a xs) (ys ++ drop (e - a) (drop a xs)) (length ys + (k - e)) d
+          ∙ getD-append-add ys (drop (e - a) (drop a xs)) (k - e) d
+          ∙ getD-drop (e - a) (drop a xs) (k - e) d
+          ∙ getD-drop a xs ((e - a) + (k - e)) d
+          ∙ ap (λ n. getD xs n d) back
+
+-- parts of two lists from a to e are as long as each other
+pub alike : {A B : Type 0} (d : A) (xs : List A) (c : B) (ys : List B) (a e : ℕ) → a ≤ e → e ≤ length xs → e ≤ length ys
+    → length (take (e - a) (drop a xs)) ≡ length (take (e - a) (drop a ys))
+alike d xs c ys a e h l g = length-between d xs a e h l ∙ sym (length-between c ys a e h g)
+
 -- a front of a slice was lent and came back as ys, and the rest was not lent
 pub front-lent : {A : Type 0} (lent front : ℕ) → lent ≡ front → (ys old : List A) → length ys ≡ lent
     → ys ++ drop (lent - 0) old ≡ take front (ys ++ drop (lent - 0) old) ++ drop front old

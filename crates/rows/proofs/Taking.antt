@@ -3,7 +3,7 @@
 -- Assumes nothing.
 use mathlib.Core.Path.{_≡_, refl, sym, ap, ap₂, subst, _∙_}
 use mathlib.Core.Bool.{Bool, true, false, cond}
-use mathlib.Core.List.{List, [], _∷_, map}
+use mathlib.Core.List.{List, [], _∷_}
 use Prim.Native.Nat.{ℕ, _+_, _-_, _*_, _/_, _≤_, _<_}
 use native.Mathlib.Nat.{le-trans, le-of-eq, mul-add, mul-one, mul-le-mul, mul-le-mul-left, mul-left-comm}
 use native.Mathlib.Decide.{decLt}
@@ -12,14 +12,14 @@ use lib.Dec.{ltb, eqb}
 use lib.ListN.{length, getD, take, drop, length-drop, List·getD-eq-default}
 use lib.Seq.{length-take-le, getD-take, getD-drop}
 use borrow.Author.Tests.{le-ltb, ltb-false, eqb-true, eqb-false}
-use Rattle.spec.specs.Words.{tab, total}
+use Rattle.spec.specs.Words.{total}
 use Rattle.spec.specs.declared.Filter.{Filter}
 use Rattle.spec.specs.Recipe.{Recipe, recipe, boxOrder, order, gain}
 use Rattle.spec.specs.Picture.{Picture, picture, Within, exact, fullWidth, fullHeight, fullRow}
 use Rattle.spec.specs.Stream.{boxCells, cascadeCells, streamCells}
-use Rattle.spec.specs.Gray.{gray, leftover, grays, leftovers, sameColumn, sameRow, sameSum, placeWeight, sameGray, sameLeftover}
+use Rattle.spec.specs.Gray.{sameColumn, sameRow, sameSum}
 use Rattle.spec.specs.Refusals.{first, tooFewCells, sizeChecks, pictureChecks, startChecks, fullSize}
-use Rattle.laws.proofs.Lists.{length-tab, getD-tab, tab-agree, tab-map}
+use Rattle.laws.proofs.Lists.{length-tab, getD-tab}
 use Rattle.laws.proofs.Exact.{exact-small}
 use Rattle.laws.proofs.Refusals.{Sized, AcceptedPicture, grown-most, none-both, first-then, size-numbered, is-sized}
 use Rattle.filter.specs.declared.checks.Measures.{Measures}
@@ -64,21 +64,6 @@ module _ (r : Recipe) (p : Picture) (j : ℕ) (row : List ℕ) (is : row ≡ ful
       where
         past : (i : ℕ) → p .width ≤ i → length taken ≤ i
         past i h = omega (arith, taken-length)
-
-    -- what is made of each, and so their greys and leftovers
-    taken-made : {A : Type 0} (f : ℕ → A) → map f taken ≡ tab (p .width) (λ i. f (sameSum r p i j))
-    taken-made f =
-        sym (tab-map f 0 taken)
-        ∙ ap (λ k. tab k (λ i. f (getD taken i 0))) taken-length
-        ∙ tab-agree (p .width) (λ i. f (getD taken i 0)) (λ i. f (sameSum r p i j)) (λ i h. ap f (taken-at i h))
-
-    pub taken-grays : grays (gain r) taken ≡ tab (p .width) (λ i. sameGray r p i j)
-    unfolding sameGray placeWeight grays
-    taken-grays = taken-made (gray (gain r))
-
-    pub taken-leftovers : leftovers (gain r) taken ≡ tab (p .width) (λ i. sameLeftover r p i j)
-    unfolding sameLeftover placeWeight leftovers
-    taken-leftovers = taken-made (leftover (gain r))
 
 -- ---- work cells
 

@@ -1,16 +1,16 @@
-// Document 01's reading at one picture place, without work cells; document 02's leftover beside the grey.
+// Document 01's reading at one picture place, without work cells; document 02's leftover beside the grey,
+// and its inside weight.
 ghost use mathlib.Core.Path.{_≡_};
-ghost use Prim.Native.Nat.{_*_, _^_, _≤_};
-ghost use Rattle.spec.specs.Recipe.{recipe, gain};
+ghost use Prim.Native.Nat.{_*_, _^_, _≤_, _<_};
+ghost use Rattle.spec.specs.Recipe.{recipe};
 ghost use Rattle.spec.specs.Picture.{picture, largestGray};
-ghost use Rattle.spec.specs.Gray.{gray as grayOf, leftover as leftoverOf, ratio as ratioOf, expressed, reading as readingOf};
-ghost use Rattle.spec.specs.Refusals.{first, answer, recipeChecks, readingChecks};
+ghost use Rattle.spec.specs.Gray.{ratio as ratioOf, expressed, reading as readingOf};
+ghost use Rattle.spec.specs.Refusals.{answer, readingChecks};
 ghost use Rattle.sample.specs.Sampled.{chosen, sampleTold, sampledTold};
 use direct::Point;
 use direct::point_sum;
-use filter::measure;
-use gray::Shade;
-use gray::round;
+use gray::divisor_of;
+use gray::round_one;
 use spec::Filter;
 
 // What is read: the grey with its leftover, the exact sum, or the quotient of sum and weight.
@@ -41,28 +41,14 @@ fn mean(sum: u64, weight: u64) -> f64
     (sum as f64) / (weight as f64)
 }
 
-// The grey of a sum and its leftover, as rounding has them for a row of one sum.
-fn shade(filter: Filter, sum: u64) -> Shade
-    requires { ⌜ (first (recipeChecks (recipe filter)) ≡ 0) × (sum ≤ largestGray * gain (recipe filter)) ⌝ }
-    ensures { λ r. ⌜ (r .gray ≡ grayOf (gain (recipe filter)) sum) × (r .leftover ≡ leftoverOf (gain (recipe filter)) sum) ⌝ }
-{
-    let sums = [sum];
-    let mut out = [0u8; 1];
-    let mut leftovers = [0i64; 1];
-    round(filter, &sums, &mut out, &mut leftovers);
-    let gray = out[0];
-    let leftover = leftovers[0];
-    Shade { gray, leftover }
-}
-
-// A sum as the quantity that is chosen.
-fn express(filter: Filter, sum: u64, weight: u64, quantity: Quantity) -> Sample
-    requires { ⌜ (first (recipeChecks (recipe filter)) ≡ 0) × (weight ≡ gain (recipe filter)) × (weight ≤ 2 ^ 44) × (sum ≤ largestGray * weight) ⌝ }
+// A sum over a weight, as the quantity that is chosen.
+fn express(sum: u64, weight: u64, quantity: Quantity) -> Sample
+    requires { ⌜ (0 < weight) × (weight ≤ 2 ^ 44) × (sum ≤ largestGray * weight) ⌝ }
     ensures { λ r. ⌜ sampleTold r ≡ expressed (chosen quantity) weight sum ⌝ }
 {
     match quantity {
         Quantity::Gray => {
-            let shade = shade(filter, sum);
+            let shade = round_one(sum, divisor_of(weight));
             let gray = shade.gray;
             let leftover = shade.leftover;
             Sample::Gray { gray, leftover }
@@ -72,7 +58,8 @@ fn express(filter: Filter, sum: u64, weight: u64, quantity: Quantity) -> Sample
     }
 }
 
-// The reading at a picture place, from the sum of the same-size blur: refused by 1 to 6 and 15.
+// The reading at a picture place, from the sum of the same-size blur and the inside weight: refused by 1 to
+// 6 and 15.
 pub fn reading(
     filter: Filter,
     width: usize,
@@ -88,9 +75,6 @@ pub fn reading(
     let point = point_sum(filter, width, height, pixels, column, row);
     match point {
         Point::Refused(number) => Sampled::Refused(number),
-        Point::Sum(sum) => {
-            let m = measure(filter);
-            Sampled::Of(express(filter, sum, m.gain, quantity))
-        }
+        Point::At { sum, weight } => Sampled::Of(express(sum, weight, quantity)),
     }
 }

@@ -8,7 +8,7 @@ use lib.Ieee
 use Rattle.spec.specs.Words.{sum, tab, part, total, product, somewhere, everywhere, keep, occurs}
 use Rattle.spec.specs.Recipe.{box, convolve, kernel, boxOrder, order, weight, gain}
 use Rattle.spec.specs.Picture.{pixel, pixelBack, exact, fullWidth, fullHeight, fullRow, full}
-use Rattle.spec.specs.Gray.{gray, places, sameColumn, sameRow, sameSum, placeWeight, sameGray, nearest, nearestDifference, difference, float, ratio, sameQuotient, boxSquare, squares, variance}
+use Rattle.spec.specs.Gray.{gray, places, sameColumn, sameRow, sameSum, plain, insideWeight, placeWeight, sameGray, nearest, nearestDifference, difference, float, ratio, sameQuotient, boxSquare, squares, variance}
 use Rattle.spec.specs.Same.{struck, sameCounts, equivalent}
 use Rattle.spec.specs.Stream.{boxCells, cascadeCells, streamCells}
 use Rattle.spec.specs.Job.{mark, version, read16, jobRecipe, jobWidth, jobHeight, jobOffset, jobLength, jobPicture}
@@ -18,7 +18,7 @@ use Rattle.spec.specs.Cases.{Case, numbers, output, table, exampleJob}
 
 -- the test over the whole table
 all : map (λ (c : Case). output (c .question)) table ≡ map (λ (c : Case). c .expected) table
-unfolding sum tab total product everywhere keep occurs box convolve kernel boxOrder order weight gain pixel pixelBack exact fullWidth fullHeight fullRow full flatten gray places sameColumn sameRow sameSum placeWeight sameGray nearest nearestDifference difference float ratio sameQuotient boxSquare squares variance struck sameCounts equivalent numbers output alone table Ieee.toBits Ieee.ofInt Ieee.div Ieee.round Ieee.units Ieee.odd Ieee.size Ieee.climb Ieee.span
+unfolding sum tab total product everywhere keep occurs box convolve kernel boxOrder order weight gain pixel pixelBack exact fullWidth fullHeight fullRow full flatten gray places sameColumn sameRow sameSum plain insideWeight placeWeight sameGray nearest nearestDifference difference float ratio sameQuotient boxSquare squares variance struck sameCounts equivalent numbers output alone table Ieee.toBits Ieee.ofInt Ieee.div Ieee.round Ieee.units Ieee.odd Ieee.size Ieee.climb Ieee.span
 all = refl
 
 -- where two functions agree over a list, they agree at each member

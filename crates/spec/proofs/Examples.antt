@@ -1,10 +1,10 @@
 -- Examples of definitions that no ◆ case reaches, each computed: the numbers of each call's checks in their order, each condition on both
 -- sides of its limit, the cells and the cost of the one pass, the levels of the ladder, joined recipes, counts of widths, recipes that are
--- told apart, leftovers, variances, and what filters hold.
+-- told apart, leftovers, inside weights, variances, and what filters hold.
 -- Assumes nothing.
 use mathlib.Core.Path.{_≡_, refl}
 use mathlib.Core.Bool.{true, false}
-use mathlib.Core.List.{List, [], _∷_, _++_, map}
+use mathlib.Core.List.{List, [], _∷_, _++_, map, flatten}
 use Prim.Native.Nat.{ℕ}
 use lib.Ieee
 use lib.Ieee.{binary64}
@@ -13,11 +13,11 @@ use lib.ListN.{replicate}
 use Rattle.spec.specs.declared.Filter.{Filter}
 use Rattle.spec.specs.Words.{sum, tab, part, total, product, somewhere, everywhere, keep, occurs}
 use Rattle.spec.specs.Same.{struck, sameCounts, equivalent}
-use Rattle.spec.specs.Recipe.{Recipe, widths, recipe, held, heldFilter, boxOrder, order, weight, gain, joined}
-use Rattle.spec.specs.Picture.{Picture, picture, fullWidth, fullHeight, grown}
+use Rattle.spec.specs.Recipe.{Recipe, widths, recipe, held, heldFilter, box, convolve, kernel, boxOrder, order, weight, gain, joined}
+use Rattle.spec.specs.Picture.{Picture, picture, pixel, pixelBack, exact, fullWidth, fullHeight, grown}
 use Rattle.spec.specs.Stream.{State, stateWith, boxCells, cascadeCells, streamCells, boxCost, cascadeCost, rowCost}
 use Rattle.spec.specs.Ladder.{rungs, Axes, rowsOnly, bothAxes, onAxes, ladder, rung}
-use Rattle.spec.specs.Gray.{gray, leftover, float, ratio, boxSquare, squares, variance}
+use Rattle.spec.specs.Gray.{gray, leftover, places, sameColumn, sameRow, sameSum, plain, insideWeight, float, ratio, boxSquare, squares, variance}
 use Rattle.spec.specs.Job.{mark, version, read16, jobLength, jobRecipe, jobWidth, jobHeight}
 use Rattle.spec.specs.Cases.{recipeOf, twos, exampleJob}
 use Rattle.spec.specs.Refusals
@@ -204,6 +204,17 @@ pub left-over :
     ∷ (pos 0 ∷ pos 1 ∷ negsuc 0 ∷ pos 0 ∷ pos 1 ∷ negsuc 0 ∷ []) ∷ (pos 0 ∷ pos 0 ∷ []) ∷ []
 unfolding gray leftover
 left-over = refl
+
+-- the inside weights of rows 4 along three pixels and of columns 4 down them, halves downwards; of rows 5 on one pixel; and of rows 2,2,
+-- columns 2,2 on 3 by 3, whose window lies within the picture in the middle, where it is the weight
+abbrev inside : Recipe → ℕ → ℕ → List ℕ
+inside r w h = places (plain w h 1) (insideWeight r w h)
+
+pub inside-weights :
+    inside (recipeOf (4 ∷ []) []) 3 1 ∷ inside (recipeOf [] (4 ∷ [])) 1 3 ∷ inside (recipeOf (5 ∷ []) []) 1 1 ∷ inside (recipeOf (twos 2) (twos 2)) 3 3 ∷ []
+    ≡ (2 ∷ 3 ∷ 3 ∷ []) ∷ (2 ∷ 3 ∷ 3 ∷ []) ∷ (1 ∷ []) ∷ (9 ∷ 12 ∷ 9 ∷ 12 ∷ 16 ∷ 12 ∷ 9 ∷ 12 ∷ 9 ∷ []) ∷ []
+unfolding sum tab total box convolve kernel boxOrder order pixel pixelBack exact flatten places sameColumn sameRow sameSum plain insideWeight
+inside-weights = refl
 
 -- n times n - 1: 0, 3, 8 up to 65,024
 pub box-squares : map boxSquare (1 ∷ 2 ∷ 3 ∷ 255 ∷ []) ≡ 0 ∷ 3 ∷ 8 ∷ 65024 ∷ []

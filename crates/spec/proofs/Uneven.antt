@@ -20,7 +20,7 @@ use Rattle.spec.specs.Job
 use Rattle.spec.specs.Program
 use Rattle.spec.specs.Refusals
 
--- the recipe, one to take a difference with, the picture, and the bytes of the job
+-- the recipe, one to take a difference with, the picture, another of its sides, and the bytes of the job
 abbrev uneven : Recipe
 uneven = recipeOf (3 ∷ 2 ∷ []) (2 ∷ [])
 
@@ -29,6 +29,9 @@ other = recipeOf (2 ∷ []) (4 ∷ [])
 
 abbrev wall : Picture
 wall = picture 3 2 (70 ∷ 10 ∷ 20 ∷ 40 ∷ 0 ∷ 90 ∷ [])
+
+abbrev scored : Picture
+scored = picture 3 2 (71 ∷ 10 ∷ 20 ∷ 40 ∷ 0 ∷ 91 ∷ [])
 
 abbrev job : List ℕ
 job = 66 ∷ 79 ∷ 82 ∷ 1 ∷ 0 ∷ 2 ∷ 1 ∷ 3 ∷ 2 ∷ 2 ∷ 3 ∷ 0 ∷ 2 ∷ 0 ∷ 70 ∷ 10 ∷ 20 ∷ 40 ∷ 0 ∷ 90 ∷ []
@@ -52,14 +55,15 @@ pub sides : fullSides uneven 3 2 ≡ record { width = 6; height = 3 }
 unfolding total boxOrder order fullWidth fullHeight fullSides
 sides = refl
 
--- the same-size blur with its leftovers, a row of its sums rounded, and the difference both ways
-pub blurred : Gray.places wall (Gray.sameSum uneven wall) ∷ Gray.places wall (Gray.sameGray uneven wall) ∷ []
-    ≡ (150 ∷ 180 ∷ 130 ∷ 230 ∷ 350 ∷ 350 ∷ []) ∷ (13 ∷ 15 ∷ 11 ∷ 19 ∷ 29 ∷ 29 ∷ []) ∷ []
-unfolding sum tab total product box convolve kernel boxOrder order weight gain pixel pixelBack exact flatten Gray.gray Gray.places Gray.sameColumn Gray.sameRow Gray.sameSum Gray.placeWeight Gray.sameGray
+-- the same-size blur, its inside weights and its leftovers; a row of sums rounded by the weight; and the difference both ways
+pub blurred :
+    Gray.places scored (Gray.sameSum uneven scored) ∷ Gray.places scored (Gray.placeWeight uneven scored) ∷ Gray.places scored (Gray.sameGray uneven scored) ∷ []
+    ≡ (152 ∷ 182 ∷ 131 ∷ 232 ∷ 353 ∷ 353 ∷ []) ∷ (3 ∷ 5 ∷ 5 ∷ 6 ∷ 10 ∷ 10 ∷ []) ∷ (51 ∷ 36 ∷ 26 ∷ 39 ∷ 35 ∷ 35 ∷ []) ∷ []
+unfolding sum tab total product box convolve kernel boxOrder order weight gain pixel pixelBack exact flatten Gray.gray Gray.places Gray.sameColumn Gray.sameRow Gray.sameSum Gray.plain Gray.insideWeight Gray.placeWeight Gray.sameGray
 blurred = refl
 
-pub blurred-leftovers : Gray.places wall (Gray.sameLeftover uneven wall) ≡ negsuc 5 ∷ pos 0 ∷ negsuc 1 ∷ pos 2 ∷ pos 2 ∷ pos 2 ∷ []
-unfolding sum tab total product box convolve kernel boxOrder order weight gain pixel pixelBack exact flatten Gray.gray Gray.leftover Gray.places Gray.sameColumn Gray.sameRow Gray.sameSum Gray.placeWeight Gray.sameLeftover
+pub blurred-leftovers : Gray.places scored (Gray.sameLeftover uneven scored) ≡ negsuc 0 ∷ pos 2 ∷ pos 1 ∷ negsuc 1 ∷ pos 3 ∷ pos 3 ∷ []
+unfolding sum tab total product box convolve kernel boxOrder order weight gain pixel pixelBack exact flatten Gray.gray Gray.leftover Gray.places Gray.sameColumn Gray.sameRow Gray.sameSum Gray.plain Gray.insideWeight Gray.placeWeight Gray.sameLeftover
 blurred-leftovers = refl
 
 pub rounded : Gray.grays 12 (150 ∷ 180 ∷ 130 ∷ []) ≡ 13 ∷ 15 ∷ 11 ∷ []
@@ -75,13 +79,13 @@ pub differences : Gray.places wall (Gray.difference uneven other wall) ∷ Gray.
 unfolding sum tab total product box convolve kernel boxOrder order weight gain pixel pixelBack exact flatten Gray.places Gray.sameColumn Gray.sameRow Gray.sameSum Gray.nearest Gray.nearestDifference Gray.difference
 differences = refl
 
--- the three readings at column 2, row 0, and the quotient there
+-- the three readings at column 0, row 1, and the quotient there
 pub readings :
-    Gray.reading asGray uneven wall 2 0 ∷ Gray.reading asSum uneven wall 2 0 ∷ Gray.reading asQuotient uneven wall 2 0
-    ∷ quotientReading (Gray.sameQuotient uneven wall 2 0) ∷ []
-    ≡ grayReading 11 (negsuc 1) ∷ sumReading 130 ∷ quotientReading (Ieee.ofBits binary64 0x4025_AAAA_AAAA_AAAB)
-    ∷ quotientReading (Ieee.ofBits binary64 0x4025_AAAA_AAAA_AAAB) ∷ []
-unfolding sum tab total product box convolve kernel boxOrder order weight gain pixel pixelBack exact Gray.gray Gray.leftover Gray.sameColumn Gray.sameRow Gray.sameSum Gray.placeWeight Gray.sameGray Gray.float Gray.ratio Gray.sameQuotient Gray.reading Ieee.ofInt Ieee.div Ieee.round Ieee.units Ieee.odd Ieee.size Ieee.climb Ieee.span Ieee.ofBits Ieee.ofFields Gray.expressed
+    Gray.reading asGray uneven scored 0 1 ∷ Gray.reading asSum uneven scored 0 1 ∷ Gray.reading asQuotient uneven scored 0 1
+    ∷ quotientReading (Gray.sameQuotient uneven scored 0 1) ∷ []
+    ≡ grayReading 39 (negsuc 1) ∷ sumReading 232 ∷ quotientReading (Ieee.ofBits binary64 0x4043_5555_5555_5555)
+    ∷ quotientReading (Ieee.ofBits binary64 0x4043_5555_5555_5555) ∷ []
+unfolding sum tab total product box convolve kernel boxOrder order weight gain pixel pixelBack exact Gray.gray Gray.leftover Gray.sameColumn Gray.sameRow Gray.sameSum Gray.plain Gray.insideWeight Gray.placeWeight Gray.sameGray Gray.float Gray.ratio Gray.sameQuotient Gray.reading Ieee.ofInt Ieee.div Ieee.round Ieee.units Ieee.odd Ieee.size Ieee.climb Ieee.span Ieee.ofBits Ieee.ofFields Gray.expressed
 readings = refl
 
 -- the scale card of rows 5, columns 2,2

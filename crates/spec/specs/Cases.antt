@@ -1,4 +1,5 @@
--- Document 01, "Wall pieces to try": the cases marked ◆, as one table of inputs and expected outputs; and the input of its job example.
+-- Document 01, "Wall pieces to try": the cases marked ◆, as one table of inputs and expected outputs, two of them as document 02, S-4, has
+-- them; and the input of its job example.
 use mathlib.Core.Bool.{cond}
 use mathlib.Core.List.{List, [], _∷_, map}
 use Prim.Native.Nat.{ℕ}
@@ -82,19 +83,19 @@ table =
     ∷ case (measures (alone (2 ∷ 6 ∷ 6 ∷ []))) (numbers (11 ∷ 0 ∷ 72 ∷ []))
     ∷ case (measures (alone (3 ∷ 3 ∷ 8 ∷ []))) (numbers (11 ∷ 0 ∷ 72 ∷ []))
     ∷ case (equal (alone (2 ∷ 6 ∷ 6 ∷ [])) (alone (3 ∷ 3 ∷ 8 ∷ []))) (numbers (0 ∷ []))
-    -- 3 by 3 picture of 100, rows 2,2, columns 2,2, same size
+    -- 3 by 3 picture of 100, rows 2,2, columns 2,2, same size; by S-4 the greys are 100 everywhere
     ∷ case (sameSums (recipeOf (twos 2) (twos 2)) (picture 3 3 (replicate 9 100)))
     (numbers (900 ∷ 1200 ∷ 900 ∷ 1200 ∷ 1600 ∷ 1200 ∷ 900 ∷ 1200 ∷ 900 ∷ []))
     ∷ case (sameGrays (recipeOf (twos 2) (twos 2)) (picture 3 3 (replicate 9 100)))
-    (numbers (56 ∷ 75 ∷ 56 ∷ 75 ∷ 100 ∷ 75 ∷ 56 ∷ 75 ∷ 56 ∷ []))
+    (numbers (replicate 9 100))
     -- rows 2, pixels 1 0
     ∷ case (sums (alone (2 ∷ [])) (picture 2 1 (1 ∷ 0 ∷ []))) (numbers (1 ∷ 1 ∷ 0 ∷ []))
     ∷ case (sameSums (alone (2 ∷ [])) (picture 2 1 (1 ∷ 0 ∷ []))) (numbers (1 ∷ 1 ∷ []))
     ∷ case (sameGrays (alone (2 ∷ [])) (picture 2 1 (1 ∷ 0 ∷ []))) (numbers (1 ∷ 1 ∷ []))
-    -- one pixel 255, A empty, B rows 2,2; exchanged; the quotient for B is 127.5
+    -- one pixel 255, A empty, B rows 2,2; exchanged; by S-4 the quotient for B is 255
     ∷ case (differences (alone []) (alone (twos 2)) (picture 1 1 (255 ∷ []))) (pos 128 ∷ [])
     ∷ case (differences (alone (twos 2)) (alone []) (picture 1 1 (255 ∷ []))) (negℤ (pos 128) ∷ [])
-    ∷ case (quotients (alone (twos 2)) (picture 1 1 (255 ∷ []))) (numbers (0x405F_E000_0000_0000 ∷ []))
+    ∷ case (quotients (alone (twos 2)) (picture 1 1 (255 ∷ []))) (numbers (0x406F_E000_0000_0000 ∷ []))
     -- rows 2,2: row variance 0.5
     ∷ case (varianceOf (twos 2)) (numbers (0x3FE0_0000_0000_0000 ∷ []))
     ∷ []

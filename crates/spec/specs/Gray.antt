@@ -1,13 +1,14 @@
--- Document 01, "Greys, differences, readings", and document 02, S-2.
+-- Document 01, "Greys, differences, readings", and document 02, S-2 and S-4.
 use mathlib.Core.Bool.{cond}
 use mathlib.Core.List.{List, flatten, map}
 use Prim.Native.Nat.{ℕ, _+_, _-_, _*_, _/_}
 use lib.Dec.{leb}
 use lib.Ieee.{Float, binary64, div, ofInt}
 use lib.IntN.{ℤ, pos, negℤ, _-ℤ_}
+use lib.ListN.{replicate}
 use Rattle.spec.specs.Words.{tab, total}
 use Rattle.spec.specs.Recipe.{Recipe, order, gain}
-use Rattle.spec.specs.Picture.{Picture, exact}
+use Rattle.spec.specs.Picture.{Picture, picture, exact}
 
 -- Rounding: grey = (sum + weight / 2) / weight, both divisions downwards.
 unfoldable pub gray : ℕ → ℕ → ℕ
@@ -39,9 +40,17 @@ sameRow r j = j + order (r .columns) / 2
 unfoldable pub sameSum : Recipe → Picture → ℕ → ℕ → ℕ
 sameSum r p i j = exact r p (sameColumn r i) (sameRow r j)
 
--- the weight over which a grey, its leftover and a quotient at a picture place are: the recipe's
+-- S-4: a picture of sides w and h whose pixels are all the same
+unfoldable pub plain : ℕ → ℕ → ℕ → Picture
+plain w h c = picture w h (replicate (w * h) c)
+
+-- Inside weight at a picture place: the exact sum there for a picture of the same sides whose pixels are all 1.
+unfoldable pub insideWeight : Recipe → ℕ → ℕ → ℕ → ℕ → ℕ
+insideWeight r w h i j = sameSum r (plain w h 1) i j
+
+-- the weight over which a grey, its leftover and a quotient at a picture place are: the inside weight
 unfoldable pub placeWeight : Recipe → Picture → ℕ → ℕ → ℕ
-placeWeight r p i j = gain r
+placeWeight r p i j = insideWeight r (p .width) (p .height) i j
 
 -- the grey that it has there, and its leftover
 unfoldable pub sameGray : Recipe → Picture → ℕ → ℕ → ℕ
@@ -69,7 +78,7 @@ float n = ofInt binary64 (pos n)
 unfoldable pub ratio : ℕ → ℕ → Float
 ratio m d = div binary64 (float m) (float d)
 
--- the quotient sum / weight at a picture place, from the sum of the same-size blur
+-- the quotient sum / weight at a picture place, from the sum of the same-size blur and the inside weight
 unfoldable pub sameQuotient : Recipe → Picture → ℕ → ℕ → Float
 sameQuotient r p i j = ratio (sameSum r p i j) (placeWeight r p i j)
 

@@ -8,5 +8,6 @@ pub mod Same
 pub mod Job
 pub mod Refusals
 pub mod Ranges
+pub mod Inside
 pub mod Program
 pub mod Cases

@@ -16,9 +16,12 @@ const DIFFERENCES: [(&str, &[u8], &[u8]); 2] = [
     ),
 ];
 
-/// Runs both sides, whose results have to agree, and prints their times.
+/// Runs both sides, whose results have to agree, and prints the times of a call.
+/// Calls on small pictures are repeated in one run, and their times have more
+/// digits.
 fn line<W: Clone>(
     [name, call]: [&str; 2],
+    calls: usize,
     work: W,
     [by_library, by_rust]: [fn(&mut W); 2],
     agree: fn(&W, &W) -> bool,
@@ -28,8 +31,30 @@ fn line<W: Clone>(
     by_library(&mut library);
     by_rust(&mut rust);
     assert!(agree(&library, &rust), "{call}, {name}");
-    let [a, b] = alternate([&mut || by_library(&mut library), &mut || by_rust(&mut rust)]);
-    println!("| {name} | {call} | {a:.2} | {b:.2} | {:.2} |", a / b);
+    let repeat = |side: fn(&mut W), work: &mut W| (0..calls).for_each(|_| side(work));
+    let times = alternate([&mut || repeat(by_library, &mut library), &mut || {
+        repeat(by_rust, &mut rust)
+    }]);
+    let [a, b] = times.map(|time| time / calls as f64);
+    let digits = if calls > 1 { 4 } else { 2 };
+    println!(
+        "| {name} | {call} | {a:.digits$} | {b:.digits$} | {:.2} |",
+        a / b
+    );
+}
+
+/// The side of a small picture, most of which is rim, and its blurs in one run.
+const SMALL_SIDE: usize = 40;
+const SMALL_BLURS: usize = 100;
+
+/// The blurs of a picture of this side, by each recipe.
+fn blurs(call: &str, side: usize, calls: usize) {
+    for (name, rows, columns) in RECIPES {
+        let work = Blur::new(rows, columns, side);
+        let agree = |a: &Blur, b: &Blur| a.out == b.out && a.leftovers == b.leftovers;
+        let sides = [Blur::by_library, greys::blur];
+        line([name, call], calls, work, sides, agree);
+    }
 }
 
 /// The library beside the same method in Rust.
@@ -40,40 +65,38 @@ pub fn same_size() {
         let work = Rounding::new(rows, columns, SIDE);
         let agree = |a: &Rounding, b: &Rounding| a.out == b.out && a.leftovers == b.leftovers;
         let sides = [Rounding::by_library, greys::round_row];
-        line([name, "rounding"], work, sides, agree);
+        line([name, "rounding"], 1, work, sides, agree);
     }
-    for (name, rows, columns) in RECIPES {
-        let work = Blur::new(rows, columns, SIDE);
-        let agree = |a: &Blur, b: &Blur| a.out == b.out && a.leftovers == b.leftovers;
-        let sides = [Blur::by_library, greys::blur];
-        line([name, "same-size blur"], work, sides, agree);
-    }
+    blurs("same-size blur", SIDE, 1);
+    blurs("same-size blur of 40 by 40", SMALL_SIDE, SMALL_BLURS);
     for (name, a, b) in DIFFERENCES {
         let work = Difference::new(a, b, SIDE);
         let agree = |a: &Difference, b: &Difference| a.out == b.out;
         let sides = [Difference::by_library, greys::difference];
-        line([name, "difference"], work, sides, agree);
+        line([name, "difference"], 1, work, sides, agree);
     }
 }
 
 /// What stands in a cell that is not touched.
 const MARK: u64 = 0xA5A5_A5A5_A5A5_A5A5;
 
-/// The bytes that the blur writes: the cells of the one pass, one row of sums
-/// and both outputs. No more cells may have changed than those and a row.
+/// The bytes that the blur writes: the cells of the one pass, one row of sums, the
+/// inside weights along both axes, the reciprocals of a row, and both outputs. No
+/// more cells may have changed than those of the one pass and a row.
 fn blur_bytes(work: &mut Blur) -> usize {
     work.cells.fill(MARK);
     work.by_library();
     let changed = work.cells.iter().filter(|&&cell| cell != MARK).count();
     let sums = work.recipe.needed + work.recipe.full_width;
     assert!(changed <= sums, "{changed} cells of the blur have changed");
-    8 * sums + work.out.len() + 8 * work.leftovers.len()
+    8 * (sums + 3 * work.side) + work.out.len() + 8 * work.leftovers.len()
 }
 
 /// The blur beside pass by pass: times, and the bytes that are written.
 pub fn memory() {
-    println!("Bytes written: by the blur the cells of the one pass, one row of sums and both");
-    println!("outputs, by pass by pass two buffers of the grown size.");
+    println!("Bytes written: by the blur the cells of the one pass, one row of sums, the inside");
+    println!("weights along both axes, the reciprocals of a row and both outputs, by pass by pass");
+    println!("two buffers of the grown size.");
     println!();
     println!("| Recipe | Blur, ms | Pass by pass, ms | Blur, bytes | Pass by pass, bytes |");
     println!("|---|---|---|---|---|");

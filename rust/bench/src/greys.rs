@@ -1,8 +1,9 @@
 //! Rounding, the same-size blur and the difference in safe Rust: the one pass
 //! goes row by row through one row of sums, whose middle part is rounded into the
-//! output, or for a blur into both.
+//! output, or for a blur, by the inside weights of `rims`, into both.
 
 use crate::gray_work::{Blur, Difference, Recipe, Rounding};
+use crate::rims::{axis_weights, Band};
 use crate::stages::{next_row, MOST_WIDTH};
 use crate::work::reach;
 
@@ -51,14 +52,14 @@ impl<'a> Pass<'a> {
 const RECIPROCAL_BITS: u32 = 55;
 
 /// A weight to divide by: its half, downwards, and 2^55 over it, downwards.
-struct Divisor {
-    weight: u64,
+pub struct Divisor {
+    pub weight: u64,
     half: u64,
     reciprocal: u64,
 }
 
 impl Divisor {
-    fn new(weight: u64) -> Divisor {
+    pub fn new(weight: u64) -> Divisor {
         Divisor {
             weight,
             half: weight / 2,
@@ -79,7 +80,7 @@ impl Divisor {
     /// The estimate is the quotient or one less, and the next multiple of the
     /// weight tells which. The outcome is added, so that no branch hangs on the
     /// sum.
-    fn by_reciprocal(&self, sum: u64) -> u64 {
+    pub fn by_reciprocal(&self, sum: u64) -> u64 {
         let raised = sum + self.half;
         let estimate = (raised * self.reciprocal) >> RECIPROCAL_BITS;
         let next = (estimate + 1) * self.weight;
@@ -102,7 +103,7 @@ fn round_each(
 }
 
 /// A weight with a single bit set is divided by a shift, and multiplied by one.
-fn round(by: &Divisor, sums: &[u64], outputs: (&mut [u8], &mut [i64])) {
+pub fn round(by: &Divisor, sums: &[u64], outputs: (&mut [u8], &mut [i64])) {
     match by.shift() {
         Some(shift) => {
             let rounded = |sum| by.by_shift(shift, sum);
@@ -128,10 +129,13 @@ pub fn blur(work: &mut Blur) {
     let recipe = &work.recipe;
     let cells = &mut work.cells[..recipe.needed];
     let mut pass = Pass::new(recipe, &work.pixels, work.side, cells);
-    let by = Divisor::new(recipe.weight);
+    let down = axis_weights(&recipe.columns, work.side);
+    let mut band = Band::new(&axis_weights(&recipe.rows, work.side));
     let rows = work.out.chunks_exact_mut(work.side);
-    for outputs in rows.zip(work.leftovers.chunks_exact_mut(work.side)) {
-        round(&by, pass.next(), outputs);
+    let rows = rows.zip(work.leftovers.chunks_exact_mut(work.side));
+    for (outputs, down) in rows.zip(down) {
+        band.set_down(down);
+        band.round(pass.next(), outputs);
     }
 }
 

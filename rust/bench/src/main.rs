@@ -19,6 +19,7 @@ mod jobs;
 mod ladder;
 mod passes;
 mod programs;
+mod rims;
 
 use bench::{stages, stream, timing, work};
 use bore::Filter;
@@ -220,9 +221,9 @@ fn comparing() {
 }
 
 fn main() {
-    println!("Picture of 1,024 by 1,024. Times in milliseconds, the least of several runs");
-    println!("in alternation. Both sides are built for release, and the buffers are warm:");
-    println!("each side has run with its own buffers before its time is taken.");
+    println!("Picture of 1,024 by 1,024 where no other is named. Times in milliseconds, the");
+    println!("least of several runs in alternation. Both sides are built for release, and the");
+    println!("buffers are warm: each side has run with its own before its time is taken.");
     println!();
     println!(
         "Aims: library / Rust within 1.05 for one pass and pass by pass, 1.1 for direct; \

@@ -1,5 +1,6 @@
 //! Safe wrapper over the static library of the bore wall picture filter of
-//! document 01, with the fading ladder and the leftovers of document 02.
+//! document 01, with the fading ladder, the leftovers and the inside weights of
+//! document 02.
 //!
 //! Every call returns the papers' refusal number, 0 where it is accepted, and
 //! writes its values to what the caller lends; `refusal_text` gives the words of
@@ -7,6 +8,11 @@
 //! the count of a refused push or drain and the job of a refused `read_job`,
 //! which become zeros. The calls stand in `raw`, each beside the declaration of
 //! the function that it calls.
+//!
+//! The inside weight at a place of a picture is the exact sum that the blur takes
+//! there for a picture of the same sides whose pixels are all 1. Greys, leftovers
+//! and quotients of a place (`blur`, `sample`, `sample_gray`, `sample_mean`) are
+//! by its inside weight; `round` and `difference` are by the filter's weight.
 
 #![deny(unsafe_code)]
 
@@ -109,7 +115,8 @@ pub enum Quantity {
 }
 
 /// The value that a reading gives: the grey with its leftover, the exact sum, or
-/// the quotient of sum and weight.
+/// the quotient of sum and inside weight. Grey and leftover are by the inside
+/// weight too.
 #[derive(Clone, Copy, Debug, PartialEq)]
 pub enum Sample {
     Gray { gray: u8, leftover: i64 },
@@ -118,7 +125,8 @@ pub enum Sample {
 }
 
 /// The reading at one place of the picture, a column and a row, by choice. The
-/// sum is the one that the blur takes there; refusals 1 to 6, then 15.
+/// sum is the one that the blur takes there; grey, leftover and quotient are by
+/// the inside weight of the place; refusals 1 to 6, then 15.
 #[must_use = "a number other than 0 is a refusal"]
 pub fn sample(
     filter: &Filter,

@@ -514,8 +514,8 @@ pub fn drain(state: &mut State, out: &mut [u64], cells: &mut [u64], count: &mut 
 }
 
 /// The greys of a row of sums (document 01: rounding) and their leftovers, sum
-/// less weight times grey (document 02), in two outputs of the same length;
-/// refusals 1 to 4, then 7, 11.
+/// less weight times grey (document 02), in two outputs of the same length, all by
+/// the filter's weight; refusals 1 to 4, then 7, 11.
 #[must_use = "a number other than 0 is a refusal"]
 pub fn round(filter: &Filter, sums: &[u64], out: &mut [u8], leftovers: &mut [i64]) -> u8 {
     // SAFETY: each pointer and the length after it are those of one slice; the
@@ -535,7 +535,9 @@ pub fn round(filter: &Filter, sums: &[u64], out: &mut [u8], leftovers: &mut [i64
 
 /// The greys of the picture's own places (document 01: the same-size blur) and
 /// their leftovers, in two outputs of exactly the picture's size and with work
-/// cells of at least twice the grown size; refusals 1 to 8.
+/// cells of at least twice the grown size. Both are by the inside weight of each
+/// place (document 02): the exact sum there for a picture of the same sides whose
+/// pixels are all 1; refusals 1 to 8.
 #[must_use = "a number other than 0 is a refusal"]
 pub fn blur(
     filter: &Filter,
@@ -565,10 +567,10 @@ pub fn blur(
     }
 }
 
-/// The rounded differences of `a` and `b` at the picture's own places, in an
-/// output of exactly the picture's size and with work cells of at least twice
-/// both grown sizes together; refusals 1 to 4 of `a`, those of `b`, then 5 to 8,
-/// 12, 13.
+/// The rounded differences of `a` and `b` at the picture's own places, by the
+/// weights of both filters, in an output of exactly the picture's size and with
+/// work cells of at least twice both grown sizes together; refusals 1 to 4 of
+/// `a`, those of `b`, then 5 to 8, 12, 13.
 #[must_use = "a number other than 0 is a refusal"]
 pub fn difference(
     a: &Filter,
@@ -597,7 +599,8 @@ pub fn difference(
     }
 }
 
-/// The reading of the grey alone, with its leftover; refusals as for `sample`.
+/// The reading of the grey alone, with its leftover, both by the inside weight of
+/// the place; refusals as for `sample`.
 #[must_use = "a number other than 0 is a refusal"]
 pub fn sample_gray(
     filter: &Filter,
@@ -632,8 +635,8 @@ pub fn sample_sum(
     unsafe { bore_sample_sum(filter, width, height, start, len, column, row, sum) }
 }
 
-/// The reading of the quotient of sum and weight alone; refusals as for
-/// `sample`.
+/// The reading of the quotient alone, the sum over the inside weight of the
+/// place; refusals as for `sample`.
 #[must_use = "a number other than 0 is a refusal"]
 pub fn sample_mean(
     filter: &Filter,

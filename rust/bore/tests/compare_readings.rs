@@ -7,10 +7,9 @@ mod common;
 
 use common::agree_greys;
 use common::pictures::{any_place, larger_picture, past, picture_filter, pictured, repaint};
-use common::pictures::{some_places, Picture};
+use common::pictures::{over_ends, some_places, Picture};
 use common::{count, each_seed, meets, Case};
 use reference::random::Random;
-use reference::BoxFilter;
 
 /// The case of a seed with a picture and a place.
 fn placed(seed: u64) -> (Case, Random, Picture, (usize, usize)) {
@@ -88,15 +87,9 @@ fn random_places_meet_every_number_and_kind() {
         if number > 0 {
             continue;
         }
-        let (case, _, picture, (column, row)) = placed(seed);
+        let (case, _, picture, place) = placed(seed);
         let recipe = case.recipe();
-        let over = |list: &[BoxFilter], at: usize, side: usize| {
-            let reach = reference::reach(list);
-            let last = at + reach / 2;
-            [last < reach, last >= side]
-        };
-        let across = over(&recipe.rows, column, picture.width);
-        let down = over(&recipe.columns, row, picture.height);
+        let [across, down] = over_ends(&recipe, &picture, place);
         let met = [
             across == [true, false],
             across == [false, true],

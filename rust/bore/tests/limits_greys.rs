@@ -1,5 +1,6 @@
-//! Rounding and the same-size blur at each limit of document 01: every number
-//! and every grey stands here as the paper gives it, and nearly every call is
+//! Rounding and the same-size blur at each limit of document 01, rounding by the
+//! weight and the blur by the inside weight of document 02: every number and
+//! every grey stands here as the papers give it, and nearly every call is
 //! compared with the reference too.
 
 mod common;
@@ -9,7 +10,7 @@ use common::accepted;
 use common::agree_greys::{blur, round};
 use common::causes::{first, from_bits, with_refusals};
 use common::pictures::{Picture, REFUSED};
-use common::{filter, Case, BELOW};
+use common::{filter, on_axis, Case, BELOW};
 use reference::boxes;
 use reference::random::Random;
 
@@ -328,44 +329,71 @@ fn just_enough_cells() {
 }
 
 /// One pixel of 200 in a line of black ones: rx / 2 and ry / 2 are halved
-/// downwards.
+/// downwards. The inside weights of the last five lists are 2 3 4 4 3, 3 5 6 6 5,
+/// 3 4 5 4 3, 3 4 5 5 4 and 16 26 31 31 26.
 #[test]
 fn where_one_pixel_goes() {
-    for (list, grays) in [
-        (&[][..], [0, 0, 200, 0, 0]),
-        (&[2], [0, 0, 100, 100, 0]),
-        (&[3], [0, 67, 67, 67, 0]),
-        (&[2, 2], [0, 50, 100, 50, 0]),
-        (&[4], [0, 50, 50, 50, 50]),
-        (&[3, 2], [0, 33, 67, 67, 33]),
-        (&[5], [40, 40, 40, 40, 40]),
-        (&[6], [33, 33, 33, 33, 33]),
-        (&[2; 5], [6, 31, 63, 63, 31]),
+    for (list, grays, leftovers) in [
+        (&[][..], [0, 0, 200, 0, 0], [0; 5]),
+        (&[2], [0, 0, 100, 100, 0], [0; 5]),
+        (&[3], [0, 67, 67, 67, 0], [0, -1, -1, -1, 0]),
+        (&[2, 2], [0, 50, 100, 50, 0], [0; 5]),
+        (&[4], [0, 67, 50, 50, 67], [0, -1, 0, 0, -1]),
+        (&[3, 2], [0, 40, 67, 67, 40], [0, 0, -2, -2, 0]),
+        (&[5], [67, 50, 40, 50, 67], [-1, 0, 0, 0, -1]),
+        (&[6], [67, 50, 40, 40, 50], [-1, 0, 0, 0, 0]),
+        (&[2; 5], [13, 38, 65, 65, 38], [-8, 12, -15, -15, 12]),
     ] {
         let line = [0, 0, 200, 0, 0];
-        assert_eq!(accepted::blur(&filter(list, &[]), 5, 1, &line).0, grays);
-        assert_eq!(accepted::blur(&filter(&[], list), 1, 5, &line).0, grays);
+        let expected = (grays.to_vec(), leftovers.to_vec());
+        let along = accepted::blur(&filter(list, &[]), 5, 1, &line);
+        let down = accepted::blur(&filter(&[], list), 1, 5, &line);
+        assert_eq!([&along, &down], [&expected; 2], "{list:?}");
     }
 }
 
-/// A white picture stays white where all coefficients cover it, whatever the
-/// weight; a black one stays black.
+/// A width of 4 on a line of three pixels, of which the first is any and the
+/// others are black. Two, three and three of the coefficients fall inside, and
+/// every sum is the first pixel: the blur rounds it by 2, 3 and 3, the rounding
+/// call by 4, and so does the difference to a width of 2.
+#[test]
+fn the_inside_weight_is_for_places_alone() {
+    for on_rows in [true, false] {
+        let (width, height) = if on_rows { (3, 1) } else { (1, 3) };
+        let [four, two] = [4, 2].map(|n| on_axis(&[n], on_rows));
+        for first in 0..=255u64 {
+            let line = [first, 0, 0];
+            let k = first as usize;
+            let third = [0, 1, -1][k % 3];
+            let grays = vec![first.div_ceil(2), (first + 1) / 3, (first + 1) / 3];
+            let found = accepted::blur(&four, width, height, &line);
+            assert_eq!(found, (grays, vec![[0, -1][k % 2], third, third]));
+            let quarter = (first + 2) / 4;
+            let found = accepted::round(&four, &[first; 3]);
+            assert_eq!(found, (vec![quarter; 3], vec![[0, 1, -2, -1][k % 4]; 3]));
+            // The sums by 2 are the first pixel twice, and then 0.
+            let quarter = quarter as i64;
+            let found = accepted::difference([&four, &two], width, height, &line);
+            assert_eq!(found, [-quarter, -quarter, quarter]);
+        }
+    }
+}
+
+/// White and black pictures stay so up to the rim, whatever the weight, on sides
+/// shorter than the window, just as long, and longer.
 #[test]
 fn white_and_black_pictures() {
     for (rows, columns, _) in WEIGHTS {
         let filter = filter(rows, columns);
         let [rx, ry] = [rows, columns].map(|list| reference::reach(&boxes(list)));
-        let (width, height) = (rx + 3, ry + 3);
-        let size = width * height;
-        let (grays, leftovers) = accepted::blur(&filter, width, height, &vec![255; size]);
-        for row in ry.div_ceil(2)..ry.div_ceil(2) + 3 {
-            for column in rx.div_ceil(2)..rx.div_ceil(2) + 3 {
-                let at = row * width + column;
-                let note = format_args!("column {column}, row {row}, {filter:?}");
-                assert_eq!((grays[at], leftovers[at]), (255, 0), "{note}");
+        for (width, height) in [(rx + 3, ry + 3), (rx + 1, ry + 1), (1 + rx / 3, 1 + ry / 3)] {
+            let size = width * height;
+            for pixel in [0, 255] {
+                let plain = vec![pixel; size];
+                let found = accepted::blur(&filter, width, height, &plain);
+                let note = format_args!("{width} by {height} of {pixel}, {filter:?}");
+                assert_eq!(found, (plain, vec![0; size]), "{note}");
             }
         }
-        let black = accepted::blur(&filter, width, height, &vec![0; size]);
-        assert_eq!(black, (vec![0; size], vec![0; size]), "{filter:?}");
     }
 }

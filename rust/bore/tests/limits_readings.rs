@@ -1,6 +1,7 @@
-//! The readings at each limit of document 01: every number and every value
-//! stands here as the paper gives it, and nearly every call is compared with the
-//! reference too, for all three quantities.
+//! The readings at each limit of document 01, greys, leftovers and quotients by
+//! the inside weight of document 02: every number and every value stands here as
+//! the papers give it, and nearly every call is compared with the reference too,
+//! for all three quantities.
 
 mod common;
 
@@ -129,44 +130,72 @@ fn the_largest_sums() {
     }
 }
 
-/// The leftovers about a half, at an even weight and at an odd one.
+/// The three quantities at a place of a line of pixels, all 0 but the first. A
+/// list has to read the same along a row and down a column.
+fn read_line(list: &[u8], side: usize, place: usize, first: u64) -> [Sample; 3] {
+    let mut line = vec![0; side];
+    line[0] = first;
+    let along = read(&filter(list, &[]), side, &line, (place, 0));
+    let down = read(&filter(&[], list), 1, &line, (0, place));
+    assert_eq!(along, down, "{list:?}");
+    along
+}
+
+/// The leftovers about a half, at an even weight and at an odd one: first where
+/// the whole window is inside, then where the inside weight is 3, 2, 1, 4 and 5.
 #[test]
 fn leftovers_beside_the_grey() {
-    for (list, pixel, gray, leftover) in [
-        (&[4][..], 1, 0, 1),
-        (&[4], 2, 1, -2),
-        (&[4], 3, 1, -1),
-        (&[4], 4, 1, 0),
-        (&[3], 1, 0, 1),
-        (&[3], 2, 1, -1),
-        (&[5], 2, 0, 2),
-        (&[5], 3, 1, -2),
-        (&[255], 127, 0, 127),
-        (&[255], 128, 1, -127),
+    for (list, side, place, pixel, gray, leftover) in [
+        (&[4][..], 4, 2, 1, 0, 1),
+        (&[4], 4, 2, 2, 1, -2),
+        (&[4], 4, 2, 3, 1, -1),
+        (&[4], 4, 2, 4, 1, 0),
+        (&[3], 3, 1, 1, 0, 1),
+        (&[3], 3, 1, 2, 1, -1),
+        (&[5], 5, 2, 2, 0, 2),
+        (&[5], 5, 2, 3, 1, -2),
+        (&[255], 255, 127, 127, 0, 127),
+        (&[255], 255, 127, 128, 1, -127),
+        (&[4], 3, 1, 1, 0, 1),
+        (&[4], 3, 1, 2, 1, -1),
+        (&[4], 3, 0, 1, 1, -1),
+        (&[255], 1, 0, 127, 127, 0),
+        (&[255], 4, 0, 1, 0, 1),
+        (&[255], 4, 3, 2, 1, -2),
+        (&[16], 5, 0, 2, 0, 2),
+        (&[16], 5, 4, 3, 1, -2),
     ] {
-        let expected = Sample::Gray { gray, leftover };
-        assert_eq!(read(&filter(list, &[]), 1, &[pixel], (0, 0))[0], expected);
-        assert_eq!(read(&filter(&[], list), 1, &[pixel], (0, 0))[0], expected);
+        let found = read_line(list, side, place, pixel)[0];
+        let note = format_args!("{pixel}, place {place} of {side}, {list:?}");
+        assert_eq!(found, Sample::Gray { gray, leftover }, "{note}");
     }
 }
 
 /// Quotients that no float holds: one division rounds them once, and the bits
-/// are those of the nearest float.
+/// are those of the nearest float. First the whole window is inside, then the
+/// inside weight is 3, 5, 10, 7, 49, 2 and 1.
 #[test]
 fn quotients_are_divided_once() {
-    for (list, pixel, bits) in [
-        (&[3][..], 1, 0x3FD5_5555_5555_5555),
-        (&[3], 2, 0x3FE5_5555_5555_5555),
-        (&[5], 1, 0x3FC9_9999_9999_999A),
-        (&[10], 1, 0x3FB9_9999_9999_999A),
-        (&[7], 3, 0x3FDB_6DB6_DB6D_B6DB),
+    for (list, side, place, pixel, bits) in [
+        (&[3][..], 3, 1, 1, 0x3FD5_5555_5555_5555),
+        (&[3], 3, 1, 2, 0x3FE5_5555_5555_5555),
+        (&[5], 5, 2, 1, 0x3FC9_9999_9999_999A),
+        (&[10], 10, 5, 1, 0x3FB9_9999_9999_999A),
+        (&[7], 7, 3, 3, 0x3FDB_6DB6_DB6D_B6DB),
         // 49 times the nearest float to 1 / 49 is below 1.
-        (&[49], 49, 0x3FF0_0000_0000_0000),
-        (&[2, 2], 1, 0x3FE0_0000_0000_0000),
+        (&[49], 49, 24, 49, 0x3FF0_0000_0000_0000),
+        (&[2, 2], 3, 1, 1, 0x3FD0_0000_0000_0000),
+        (&[4], 3, 1, 1, 0x3FD5_5555_5555_5555),
+        (&[3, 2], 3, 1, 1, 0x3FD9_9999_9999_999A),
+        (&[16], 10, 3, 1, 0x3FB9_9999_9999_999A),
+        (&[8], 7, 4, 3, 0x3FDB_6DB6_DB6D_B6DB),
+        (&[255], 49, 7, 49, 0x3FF0_0000_0000_0000),
+        (&[3], 2, 0, 1, 0x3FE0_0000_0000_0000),
+        (&[2, 2], 1, 0, 1, 0x3FF0_0000_0000_0000),
     ] {
-        let expected = Sample::Mean(f64::from_bits(bits));
-        assert_eq!(read(&filter(list, &[]), 1, &[pixel], (0, 0))[2], expected);
-        assert_eq!(read(&filter(&[], list), 1, &[pixel], (0, 0))[2], expected);
+        let found = read_line(list, side, place, pixel)[2];
+        let note = format_args!("{pixel}, place {place} of {side}, {list:?}");
+        assert_eq!(found, Sample::Mean(f64::from_bits(bits)), "{note}");
     }
 }
 

@@ -1,7 +1,8 @@
 //! The fixed cases of document 01 ("Wall pieces to try", "Mistakes that look
 //! harmless") that concern the calls on a filter, the comparing call, the exact
 //! sums, these by all three methods, greys, differences and readings, and the
-//! triangle of source document 001.
+//! triangle of source document 001. Greys, leftovers and quotients are those of
+//! document 02, by the inside weight.
 
 mod common;
 
@@ -203,20 +204,14 @@ fn three_by_three_of_a_hundred() {
 fn greys_of_three_by_three_of_a_hundred() {
     let twos = filter(&[2, 2], &[2, 2]);
     let pixels = [100; 9];
-    let (grays, leftovers) = blur(&twos, 3, 3, &pixels);
-    assert_eq!(grays, [56, 75, 56, 75, 100, 75, 56, 75, 56]);
-    assert_eq!(leftovers, [4, 0, 4, 0, 0, 0, 4, 0, 4]);
-    let read = |place, quantity| sample(&twos, 3, 3, &pixels, place, quantity);
-    assert_eq!(read((0, 0), Quantity::Sum), Sample::Sum(900));
-    assert_eq!(read((2, 2), Quantity::Sum), Sample::Sum(900));
-    for (place, gray, leftover) in [
-        ((0, 0), 56, 4),
-        ((1, 0), 75, 0),
-        ((0, 1), 75, 0),
-        ((1, 1), 100, 0),
-    ] {
-        let expected = Sample::Gray { gray, leftover };
-        assert_eq!(read(place, Quantity::Gray), expected);
+    assert_eq!(blur(&twos, 3, 3, &pixels), (vec![100; 9], vec![0; 9]));
+    // The inside weights: corner, edge, centre.
+    for (k, weight) in [9, 12, 9, 12, 16, 12, 9, 12, 9].into_iter().enumerate() {
+        let read = |quantity| sample(&twos, 3, 3, &pixels, (k % 3, k / 3), quantity);
+        assert_eq!(read(Quantity::Sum), Sample::Sum(100 * weight));
+        let (gray, leftover) = (100, 0);
+        assert_eq!(read(Quantity::Gray), Sample::Gray { gray, leftover });
+        assert_eq!(read(Quantity::Mean), Sample::Mean(100.0));
     }
 }
 
@@ -224,9 +219,10 @@ fn greys_of_three_by_three_of_a_hundred() {
 fn one_two_on_two_pixels() {
     assert_eq!(sums(&[2], &[], 2, 1, &[1, 0]), [1, 1, 0]);
     assert_eq!(sums(&[], &[2], 1, 2, &[1, 0]), [1, 1, 0]);
-    let halves = (vec![1, 1], vec![-1, -1]);
-    assert_eq!(blur(&filter(&[2], &[]), 2, 1, &[1, 0]), halves);
-    assert_eq!(blur(&filter(&[], &[2]), 1, 2, &[1, 0]), halves);
+    // The inside weights are 1 and 2.
+    let expected = (vec![1, 1], vec![0, -1]);
+    assert_eq!(blur(&filter(&[2], &[]), 2, 1, &[1, 0]), expected);
+    assert_eq!(blur(&filter(&[], &[2]), 1, 2, &[1, 0]), expected);
 }
 
 #[test]
@@ -236,7 +232,7 @@ fn difference_of_one_pixel() {
         assert_eq!(difference([&empty, &twos], 1, 1, &[255]), [128]);
         assert_eq!(difference([&twos, &empty], 1, 1, &[255]), [-128]);
         let mean = sample(&twos, 1, 1, &[255], (0, 0), Quantity::Mean);
-        assert_eq!(mean, Sample::Mean(127.5));
+        assert_eq!(mean, Sample::Mean(255.0));
     }
 }
 
@@ -244,9 +240,23 @@ fn difference_of_one_pixel() {
 #[test]
 fn blurs_are_not_rounded_before_the_difference() {
     let [a, b] = [filter(&[], &[]), filter(&[2, 2], &[])];
-    let [gray_a, gray_b] = [&a, &b].map(|filter| blur(filter, 1, 1, &[255]).0[0]);
+    let [sum_a, sum_b] = [
+        sums(&[], &[], 1, 1, &[255])[0],
+        sums(&[2, 2], &[], 1, 1, &[255])[1],
+    ];
+    let [gray_a, gray_b] = [(&a, sum_a), (&b, sum_b)].map(|(by, sum)| round(by, &[sum]).0[0]);
     assert_eq!(gray_a - gray_b, 127);
     assert_eq!(difference([&a, &b], 1, 1, &[255]), [128]);
+}
+
+/// The difference keeps the full weight: by inside weights it would be 0.
+#[test]
+fn differences_are_not_by_inside_weights() {
+    let [a, b] = [filter(&[], &[]), filter(&[2, 2], &[])];
+    let [gray_a, gray_b] = [&a, &b].map(|filter| blur(filter, 1, 1, &[255]).0[0]);
+    assert_eq!((gray_a, gray_b), (255, 255));
+    assert_eq!(difference([&a, &b], 1, 1, &[255]), [128]);
+    assert_eq!(difference([&b, &a], 1, 1, &[255]), [-128]);
 }
 
 /// Sums are not rounded after each box: 1 2 1 and not 1 1 1 times a weight.

@@ -1,5 +1,7 @@
 //! Rounding to greys and what it leaves over, the same-size blur, the difference
-//! of two recipes and the reading at one place.
+//! of two recipes and the reading at one place. Greys, leftovers and quotients of
+//! a picture place are by its inside weight, the rounding of a row and the
+//! difference by the weight of the recipe.
 
 use crate::picture::{check_picture, grown_size, Picture, LARGEST_GREY};
 use crate::recipe::{accepted_weight, check, coefficients_of, reach, weight, Recipe, MOST_WEIGHT};
@@ -27,11 +29,14 @@ pub struct Rounded {
     pub leftovers: Vec<i64>,
 }
 
-fn rounded(sums: &[u64], weight: u64) -> Rounded {
-    Rounded {
-        greys: sums.iter().map(|&sum| grey(sum, weight)).collect(),
-        leftovers: sums.iter().map(|&sum| leftover(sum, weight)).collect(),
+/// Each sum rounded by the weight that stands in its place.
+fn rounded(sums: &[u64], weights: &[u64]) -> Rounded {
+    let (mut greys, mut leftovers) = (Vec::new(), Vec::new());
+    for (&sum, &weight) in sums.iter().zip(weights) {
+        greys.push(grey(sum, weight));
+        leftovers.push(leftover(sum, weight));
     }
+    Rounded { greys, leftovers }
 }
 
 /// A row of sums rounded: refusals 1 to 4, then 7 for an output of another
@@ -46,7 +51,7 @@ pub fn round_row(recipe: &Recipe, sums: &[u64], out_lens: [usize; 2]) -> Result<
     if sums.iter().any(|&sum| sum > LARGEST_GREY * weight) {
         return Err(11);
     }
-    Ok(rounded(sums, weight))
+    Ok(rounded(sums, &vec![weight; sums.len()]))
 }
 
 /// The exact sum that the same-size blur takes for picture place (x, y), from
@@ -71,13 +76,28 @@ fn same_size_sums(recipe: &Recipe, w: usize, h: usize, pixels: &[u64]) -> Vec<u6
     sums
 }
 
+/// The inside weights of an accepted recipe at the places of a picture, row by
+/// row: at each the exact sum that the same-size blur takes there for a picture
+/// of the same sides whose pixels are all 1.
+pub fn inside_weights(recipe: &Recipe, w: usize, h: usize) -> Vec<u64> {
+    same_size_sums(recipe, w, h, &vec![1; w * h])
+}
+
+/// The inside weight of an accepted recipe at one picture place.
+pub fn inside_weight(recipe: &Recipe, w: usize, h: usize, place: (usize, usize)) -> u64 {
+    let r = coefficients_of(&recipe.rows);
+    let c = coefficients_of(&recipe.columns);
+    let pixels = &vec![1; w * h];
+    same_size_sum(&Picture { w, h, pixels }, &r, &c, place.0, place.1)
+}
+
 /// The work cells of the same-size blur: twice the grown size; refusals 1 to 5.
 pub fn same_size_cells(recipe: &Recipe, w: usize, h: usize) -> Result<usize, u8> {
     Ok(2 * grown_size(recipe, w, h)?)
 }
 
-/// The same-size blur, with outputs for the greys and for the leftovers:
-/// refusals 1 to 8.
+/// The same-size blur, with outputs for the greys and for the leftovers, both by
+/// the inside weights: refusals 1 to 8.
 pub fn same_size_blur(
     recipe: &Recipe,
     w: usize,
@@ -94,7 +114,7 @@ pub fn same_size_blur(
         return Err(8);
     }
     let sums = same_size_sums(recipe, w, h, pixels);
-    Ok(rounded(&sums, accepted_weight(recipe)))
+    Ok(rounded(&sums, &inside_weights(recipe, w, h)))
 }
 
 /// The work cells of a difference: twice both grown sizes together; the
@@ -173,7 +193,8 @@ pub enum Choice {
     Quotient,
 }
 
-/// The value of a reading; beside the grey its leftover.
+/// The value of a reading: the grey and its leftover, the exact sum, or the
+/// quotient of sum and inside weight.
 #[derive(Clone, Copy, Debug, PartialEq)]
 pub enum Reading {
     Grey(u64, i64),
@@ -194,14 +215,17 @@ pub fn reading(
     if place.0 >= w || place.1 >= h {
         return Err(15);
     }
-    let weight = accepted_weight(recipe);
     let r = coefficients_of(&recipe.rows);
     let c = coefficients_of(&recipe.columns);
     let sum = same_size_sum(&Picture { w, h, pixels }, &r, &c, place.0, place.1);
-    // Sum and weight are below 2^53, so both are exact as 64-bit floats.
+    let inside = || inside_weight(recipe, w, h, place);
     Ok(match choice {
-        Choice::Grey => Reading::Grey(grey(sum, weight), leftover(sum, weight)),
+        Choice::Grey => {
+            let inside = inside();
+            Reading::Grey(grey(sum, inside), leftover(sum, inside))
+        }
         Choice::Sum => Reading::Sum(sum),
-        Choice::Quotient => Reading::Quotient(sum as f64 / weight as f64),
+        // Both are below 2^53, so they are exact as 64-bit floats.
+        Choice::Quotient => Reading::Quotient(sum as f64 / inside() as f64),
     })
 }

@@ -1,10 +1,11 @@
 //! Plain reference version of the bore wall picture filter of document 01, with
-//! the fading ladder of document 02.
+//! the fading ladder, the leftovers and the inside weights of document 02.
 //!
 //! Everything here follows the definitions of the papers word for word and
 //! takes no short cuts: coefficients by multiplying polynomials, every sum as
 //! the double sum over a and b, and on the ladder, level by level, as the plain
-//! sum of what a box covers. It serves to be compared against.
+//! sum of what a box covers; an inside weight as the same double sum on a
+//! picture of ones. It serves to be compared against.
 //!
 //! A refusal is `Err` with the paper's number. Where the paper lends an output
 //! slice or work cells, a call here takes their lengths and returns the whole
@@ -23,8 +24,8 @@ pub mod stream;
 pub mod triangle;
 
 pub use greys::{
-    difference, difference_cells, difference_of_sums, grey, leftover, reading, round_row,
-    same_size_blur, same_size_cells, Choice, Reading, Rounded,
+    difference, difference_cells, difference_of_sums, grey, inside_weight, inside_weights,
+    leftover, reading, round_row, same_size_blur, same_size_cells, Choice, Reading, Rounded,
 };
 pub use job::{
     boresums, job_length, pixels_of, read_job, write_job, Job, PROGRAM_BYTES, PROGRAM_CELLS,

@@ -1,4 +1,4 @@
--- `gray_c::bore_blur` meets its contract: the answer of `gray::blur`, for the recipe that is given.
+-- `gray_c::bore_blur` meets its contract: the answer of `blur::blur`, for the recipe that is given.
 -- Assumes nothing.
 use borrow.Author.Needs.{needs}
 use Rattle.gray_c.proofs.bore_blur.Statement.{statement}

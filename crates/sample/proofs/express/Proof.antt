@@ -1,12 +1,13 @@
 -- `sample::express` meets its contract, in each of the three cases.
 -- Assumes nothing.
 use mathlib.Core.Path.{sym, ap, ap₂, _∙_}
-use native.Mathlib.Omega.{arith}
 use borrow.Author.Needs.{needs}
 use mir.Syntax.{w64}
 use mir.Val.{SFits}
 use mir.ValLaws.{toZ-ofZ}
-use Rattle.spec.specs.Gray.{grayReading, quotientReading, gray, leftover, expressed}
+use Rattle.spec.specs.Gray.{grayReading, quotientReading, expressed}
+use Rattle.gray.specs.Division.{Divides}
+use Rattle.gray.proofs.Dividing.{shade-is}
 use Rattle.sample.specs.Sampled.{chosen}
 use Rattle.sample.proofs.express.Statement.{statement}
 use Rattle.sample.proofs.express.Tie as tie
@@ -14,10 +15,11 @@ use Rattle.sample.proofs.express.Tie as tie
 enum-told : tie.Need-enum-told
 enum-told c = search needs
 
-shade-requires : tie.Need-shade-requires
-shade-requires c κs =
-    let pre = c .before .before .pre in
-    (pre .0, omega (arith, pre .1, pre .3))
+divisor-of-requires : tie.Need-divisor-of-requires
+divisor-of-requires c κs = search needs
+
+round-one-requires : tie.Need-round-one-requires
+round-one-requires c κs = search needs
 
 enum-told-2 : tie.Need-enum-told-2
 enum-told-2 c = search needs
@@ -31,15 +33,16 @@ mean-requires c κs = search needs
 returns : tie.Need-returns
 unfolding expressed
 returns c =
-    let told = c .before .before in
+    let divided = c .before .before in
+    let told = divided .before in
     let start = told .before .before in
-    let is = c .before .shade .ensures in
-    let weight = sym (start .pre .1) in
-    let held : SFits w64 (c .before .shade .result .leftover) = search needs in
-    ap₂ grayReading
-    (is .0 ∙ ap (λ w. gray w (start .args .sum)) weight)
-    (toZ-ofZ w64 _ held ∙ is .1 ∙ ap (λ w. leftover w (start .args .sum)) weight)
-    ∙ ap (λ q. expressed (chosen q) (start .args .weight) (start .args .sum)) (sym (told .enum-told .given .1))
+    let a = start .args in
+    let made = c .before .round-one .ensures in
+    let own : Divides (a .weight) (divided .divisor-of .result) = record { notZero = start .pre .0; light = start .pre .1; is = divided .divisor-of .ensures } in
+    let is = shade-is _ _ own (a .sum) (start .pre .2) in
+    let held : SFits w64 (c .before .round-one .result .leftover) = search needs in
+    ap₂ grayReading (made .0 ∙ is .0) (toZ-ofZ w64 _ held ∙ made .1 ∙ is .1)
+    ∙ ap (λ q. expressed (chosen q) (a .weight) (a .sum)) (sym (told .enum-told .given .1))
 
 returns-2 : tie.Need-returns-2
 unfolding expressed
@@ -58,7 +61,8 @@ express-spec =
     tie.close
     (tie.spec
     enum-told
-    shade-requires
+    divisor-of-requires
+    round-one-requires
     enum-told-2
     enum-told-3
     mean-requires

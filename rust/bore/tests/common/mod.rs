@@ -1,16 +1,16 @@
 //! What the comparison tests share: the change between the library's form of
 //! filters and pixels and the reference's, many random filters near all limits, in
-//! `pictures` random pictures, in `sums` rows of sums, in `pairs`, `near_misses`
-//! and `difference_pairs` pairs of recipes, in `causes` refusals on purpose, in
-//! `guarded` memory between guard pages, and the comparison of each call with the
-//! reference: in `agree` the calls on filters, in `agree_methods` direct and
-//! pass by pass, in `agree_stream` the one pass, whose work cells `cells`
-//! models, in `agree_ladder` the ladder, in `agree_greys` rounding, blur,
-//! difference and readings, in `agree_jobs` the calls on job files, which
-//! `job_parts` makes by parts and `any_jobs` at random. `accepted` has calls that
-//! have to be accepted for tests of their answers alone, `three` all three
-//! methods for tests of the sums alone, `values` gives all that a filter, a state
-//! or a job holds, and `program` runs the program on an input.
+//! `pictures` random pictures, in `rims` those with much rim, in `sums` rows of
+//! sums, in `pairs`, `near_misses` and `difference_pairs` pairs of recipes, in
+//! `causes` refusals on purpose, in `guarded` memory between guard pages, and the
+//! comparison of each call with the reference: in `agree` the calls on filters, in
+//! `agree_methods` direct and pass by pass, in `agree_stream` the one pass, whose
+//! work cells `cells` models, in `agree_ladder` the ladder, in `agree_greys`
+//! rounding, blur, difference and readings, in `agree_jobs` the calls on job
+//! files, which `job_parts` makes by parts and `any_jobs` at random. `accepted`
+//! has calls that have to be accepted for tests of their answers alone, `three`
+//! all three methods for tests of the sums alone, `values` gives all that a
+//! filter, a state or a job holds, and `program` runs the program on an input.
 //!
 //! The environment sets the random cases: BORE_CASES is their number for each
 //! test, BORE_SEED the seed of the first; each case has the next seed. A test
@@ -37,6 +37,7 @@ pub mod near_misses;
 pub mod pairs;
 pub mod pictures;
 pub mod program;
+pub mod rims;
 pub mod sums;
 pub mod three;
 pub mod values;

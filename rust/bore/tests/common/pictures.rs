@@ -241,6 +241,23 @@ pub fn some_places(random: &mut Random, recipe: &Recipe, picture: &Picture) -> V
     places
 }
 
+/// Whether the window of a place goes over the first end of the side, and whether
+/// it goes over the last one.
+fn over(list: &[BoxFilter], at: usize, side: usize) -> [bool; 2] {
+    let reach = reference::reach(list);
+    let last = at + reach / 2;
+    [last < reach, last >= side]
+}
+
+/// Whether the window of a place goes over the left end of the picture and over
+/// the right one, and whether over the upper and over the lower one.
+pub fn over_ends(recipe: &Recipe, picture: &Picture, place: (usize, usize)) -> [[bool; 2]; 2] {
+    [
+        over(&recipe.rows, place.0, picture.width),
+        over(&recipe.columns, place.1, picture.height),
+    ]
+}
+
 /// A place past the end of a side. Past the end of a row it has the index of a
 /// place in a later row.
 pub fn past(random: &mut Random, side: usize) -> usize {

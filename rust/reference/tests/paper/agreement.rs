@@ -4,8 +4,8 @@
 use crate::{blur, columns, one_pass, rows, subtract, sums};
 use reference::random::Random;
 use reference::{
-    boresums, coefficients_of, grown_sides, pixels_of, read_job, reading, round_row, same, weight,
-    BoxFilter, Choice, Reading, Recipe,
+    boresums, coefficients_of, grown_sides, inside_weight, inside_weights, pixels_of, read_job,
+    reading, round_row, same, weight, BoxFilter, Choice, Reading, Recipe,
 };
 
 /// Puts one box on every row of a picture w wide: each output is the plain sum
@@ -103,25 +103,90 @@ fn coefficients_read_the_same_from_both_ends() {
     }
 }
 
+/// The picture places of a case, each with the grown place that the blur takes.
+fn places(recipe: &Recipe, w: usize, h: usize) -> Vec<((usize, usize), usize)> {
+    let (width, height) = grown_sides(recipe, w, h).unwrap();
+    let (left, top) = ((width - w) / 2, (height - h) / 2);
+    let all = (0..h).flat_map(|y| (0..w).map(move |x| (x, y)));
+    all.map(|(x, y)| ((x, y), (y + top) * width + x + left))
+        .collect()
+}
+
 #[test]
-fn blur_reading_and_rounding_agree() {
+fn blur_and_readings_go_by_the_inside_weight() {
     let mut random = Random::new(6);
     for _ in 0..100 {
         let (recipe, w, h, pixels) = random_case(&mut random);
-        let (width, height) = grown_sides(&recipe, w, h).unwrap();
         let all = sums(&recipe, w, h, &pixels);
+        let ones = sums(&recipe, w, h, &vec![1; w * h]);
         let rounded = round_row(&recipe, &all, [all.len(); 2]).unwrap();
         let (greys, leftovers) = blur(&recipe, w, h, &pixels);
-        let (left, top) = ((width - w) / 2, (height - h) / 2);
-        for (x, y) in (0..w).flat_map(|x| (0..h).map(move |y| (x, y))) {
-            let at = (y + top) * width + x + left;
-            let (grey, leftover) = (rounded.greys[at], rounded.leftovers[at]);
-            assert_eq!((greys[y * w + x], leftovers[y * w + x]), (grey, leftover));
-            let read = |choice| reading(&recipe, w, h, &pixels, (x, y), choice).unwrap();
+        for (k, (place, at)) in places(&recipe, w, h).into_iter().enumerate() {
+            let (sum, inside) = (all[at], ones[at]);
+            let grey = (sum + inside / 2) / inside;
+            let leftover = sum as i64 - (inside * grey) as i64;
+            assert_eq!((greys[k], leftovers[k]), (grey, leftover));
+            let half = inside as i64 / 2;
+            assert!(-half <= leftover && leftover < inside as i64 - half);
+            let read = |choice| reading(&recipe, w, h, &pixels, place, choice).unwrap();
             assert_eq!(read(Choice::Grey), Reading::Grey(grey, leftover));
-            assert_eq!(read(Choice::Sum), Reading::Sum(all[at]));
-            let quotient = all[at] as f64 / weight(&recipe) as f64;
+            assert_eq!(read(Choice::Sum), Reading::Sum(sum));
+            let quotient = sum as f64 / inside as f64;
             assert_eq!(read(Choice::Quotient), Reading::Quotient(quotient));
+            if u128::from(inside) == weight(&recipe) {
+                let whole = (rounded.greys[at], rounded.leftovers[at]);
+                assert_eq!((grey, leftover), whole);
+            }
+        }
+    }
+}
+
+/// What of a list's coefficients falls inside at each place of a side.
+fn axis_weights(list: &[BoxFilter], side: usize) -> Vec<u64> {
+    let all = coefficients_of(list);
+    let half = (all.len() - 1) / 2;
+    let inside = |i: usize, a: usize| a <= i + half && i + half - a < side;
+    (0..side)
+        .map(|i| {
+            (0..all.len())
+                .filter(|&a| inside(i, a))
+                .map(|a| all[a])
+                .sum()
+        })
+        .collect()
+}
+
+#[test]
+fn an_inside_weight_is_the_product_of_both_axes() {
+    let mut random = Random::new(5);
+    for _ in 0..300 {
+        let (recipe, w, h, _) = random_case(&mut random);
+        let across = axis_weights(&recipe.rows, w);
+        let down = axis_weights(&recipe.columns, h);
+        let inside = inside_weights(&recipe, w, h);
+        for (k, (place, _)) in places(&recipe, w, h).into_iter().enumerate() {
+            let product = across[place.0] * down[place.1];
+            assert_eq!(inside[k], product);
+            assert_eq!(inside_weight(&recipe, w, h, place), product);
+            assert!(0 < product && u128::from(product) <= weight(&recipe));
+        }
+    }
+}
+
+#[test]
+fn plain_pictures_stay_plain() {
+    let mut random = Random::new(17);
+    for _ in 0..100 {
+        let (recipe, w, h, _) = random_case(&mut random);
+        let any = random.grey();
+        for grey in [0, 1, 100, 255, any] {
+            let plain = vec![grey; w * h];
+            let expected = (plain.clone(), vec![0; w * h]);
+            assert_eq!(blur(&recipe, w, h, &plain), expected);
+            for (place, _) in places(&recipe, w, h) {
+                let quotient = reading(&recipe, w, h, &plain, place, Choice::Quotient);
+                assert_eq!(quotient, Ok(Reading::Quotient(grey as f64)));
+            }
         }
     }
 }

@@ -1,6 +1,6 @@
-//! Tests of the reference version against document 01 and, for the ladder,
-//! document 02, one module for each subject, and the helpers that several of
-//! them use.
+//! Tests of the reference version against document 01 and, for the ladder, the
+//! leftovers and the inside weights, document 02, one module for each subject,
+//! and the helpers that several of them use.
 
 mod agreement;
 mod jobs;

@@ -1,5 +1,6 @@
-//! The four mistakes that look harmless. Each test makes the mistake, finds the
-//! wrong numbers that the paper quotes, and finds the right ones here.
+//! The four mistakes that look harmless, and one that document 02 makes likely.
+//! Each test makes the mistake, finds the wrong numbers, which document 01 quotes
+//! for its four, and finds the right ones here.
 
 use crate::{blur, one_pass, rows, subtract, sums};
 use reference::{grey, reach, round_row, same, weight, Recipe};
@@ -21,8 +22,20 @@ fn rounding_after_each_box() {
 #[test]
 fn rounding_both_blurs_before_the_difference() {
     let (a, b) = (rows(&[]), rows(&[2, 2]));
+    let rounded = |recipe: &Recipe, sum| round_row(recipe, &[sum], [1; 2]).unwrap().greys[0];
+    assert_eq!(sums(&a, 1, 1, &[255])[0], 255);
+    assert_eq!(sums(&b, 1, 1, &[255])[1], 510);
+    assert_eq!(rounded(&a, 255) - rounded(&b, 510), 127);
+
+    assert_eq!(subtract(&a, &b, 1, 1, &[255]), [128]);
+}
+
+/// Document 02 leaves the full weight to the difference.
+#[test]
+fn dividing_the_difference_by_inside_weights() {
+    let (a, b) = (rows(&[]), rows(&[2, 2]));
     let (grey_a, grey_b) = (blur(&a, 1, 1, &[255]).0[0], blur(&b, 1, 1, &[255]).0[0]);
-    assert_eq!(grey_a - grey_b, 127);
+    assert_eq!((grey_a, grey_b), (255, 255));
 
     assert_eq!(subtract(&a, &b, 1, 1, &[255]), [128]);
 }

@@ -225,9 +225,10 @@ fn reading_at_one_place() {
         assert!(call(&[1, 2], (1, 0)).is_ok());
     }
     let call = |choice| reading(&rows(&[3]), 2, 1, &[1, 4], (1, 0), choice);
-    assert_eq!(call(Choice::Grey), Ok(Reading::Grey(2, -1)));
+    // Two of the three coefficients fall inside.
+    assert_eq!(call(Choice::Grey), Ok(Reading::Grey(3, -1)));
     assert_eq!(call(Choice::Sum), Ok(Reading::Sum(5)));
-    assert_eq!(call(Choice::Quotient), Ok(Reading::Quotient(5.0 / 3.0)));
+    assert_eq!(call(Choice::Quotient), Ok(Reading::Quotient(2.5)));
 }
 
 #[test]

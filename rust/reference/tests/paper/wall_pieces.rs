@@ -1,9 +1,10 @@
-//! The cases under "Wall pieces to try".
+//! The cases under "Wall pieces to try", with the greys, leftovers and quotients
+//! that document 02 gives them.
 
 use crate::{blur, coefficients, columns, one_pass, rows, subtract, sums};
 use reference::{
-    check, difference_of_sums, exact_sums, grown_sides, job_length, needed_cells, reading,
-    round_row, same, scale_card, weight, Choice, Reading, Recipe,
+    check, difference_of_sums, exact_sums, grown_sides, inside_weights, job_length, needed_cells,
+    reading, round_row, same, scale_card, weight, Choice, Reading, Recipe,
 };
 
 #[test]
@@ -63,16 +64,30 @@ fn equal_reach_and_weight_with_unequal_coefficients() {
 fn three_by_three_of_a_hundred() {
     let recipe = Recipe::new(&[2, 2], &[2, 2]);
     let pixels = [100; 9];
-    let (greys, leftovers) = blur(&recipe, 3, 3, &pixels);
-    assert_eq!(greys, [56, 75, 56, 75, 100, 75, 56, 75, 56]);
-    assert_eq!(leftovers, [4, 0, 4, 0, 0, 0, 4, 0, 4]);
-    let at = |place, choice| reading(&recipe, 3, 3, &pixels, place, choice);
-    assert_eq!(at((0, 0), Choice::Sum), Ok(Reading::Sum(900)));
-    assert_eq!(at((0, 0), Choice::Grey), Ok(Reading::Grey(56, 4)));
-    assert_eq!(at((1, 0), Choice::Grey), Ok(Reading::Grey(75, 0)));
-    assert_eq!(at((0, 1), Choice::Grey), Ok(Reading::Grey(75, 0)));
-    assert_eq!(at((1, 1), Choice::Grey), Ok(Reading::Grey(100, 0)));
-    assert_eq!(at((2, 2), Choice::Sum), Ok(Reading::Sum(900)));
+    assert_eq!(blur(&recipe, 3, 3, &pixels), (vec![100; 9], vec![0; 9]));
+    let inside = [9, 12, 9, 12, 16, 12, 9, 12, 9];
+    assert_eq!(inside_weights(&recipe, 3, 3), inside);
+    for (k, weight) in inside.into_iter().enumerate() {
+        let at = |choice| reading(&recipe, 3, 3, &pixels, (k % 3, k / 3), choice);
+        assert_eq!(at(Choice::Sum), Ok(Reading::Sum(100 * weight)));
+        assert_eq!(at(Choice::Grey), Ok(Reading::Grey(100, 0)));
+        assert_eq!(at(Choice::Quotient), Ok(Reading::Quotient(100.0)));
+    }
+}
+
+/// Of four coefficients two, three and three fall on the three pixels.
+#[test]
+fn a_four_on_three_pixels() {
+    let recipe = rows(&[4]);
+    let pixels = [10, 20, 45];
+    assert_eq!(inside_weights(&recipe, 3, 1), [2, 3, 3]);
+    assert_eq!(sums(&recipe, 3, 1, &pixels)[1..4], [30, 75, 75]);
+    let expected = (vec![15, 25, 25], vec![0, 0, 0]);
+    assert_eq!(blur(&recipe, 3, 1, &pixels), expected);
+    assert_eq!(blur(&columns(&[4]), 1, 3, &pixels), expected);
+    let rounded = round_row(&recipe, &[30, 75, 75], [3; 2]).unwrap();
+    assert_eq!(rounded.greys, [8, 19, 19]);
+    assert_eq!(rounded.leftovers, [-2, -1, -1]);
 }
 
 #[test]
@@ -80,7 +95,8 @@ fn one_two_on_two_pixels() {
     let recipe = rows(&[2]);
     assert_eq!(sums(&recipe, 2, 1, &[1, 0]), [1, 1, 0]);
     assert_eq!(one_pass(&recipe, 2, 1, &[1, 0]).0, [1, 1, 0]);
-    assert_eq!(blur(&recipe, 2, 1, &[1, 0]), (vec![1, 1], vec![-1, -1]));
+    assert_eq!(inside_weights(&recipe, 2, 1), [1, 2]);
+    assert_eq!(blur(&recipe, 2, 1, &[1, 0]), (vec![1, 1], vec![0, -1]));
 }
 
 #[test]
@@ -91,7 +107,7 @@ fn difference_of_a_half_goes_away_from_zero() {
     assert_eq!(difference_of_sums(255, 1, 510, 4), 128);
     assert_eq!(difference_of_sums(510, 4, 255, 1), -128);
     let quotient = reading(&b, 1, 1, &[255], (0, 0), Choice::Quotient);
-    assert_eq!(quotient, Ok(Reading::Quotient(127.5)));
+    assert_eq!(quotient, Ok(Reading::Quotient(255.0)));
 }
 
 #[test]

@@ -1,4 +1,4 @@
--- `direct::points::point_sum` meets its contract: the refusal first; then the sum at the grown place that the same-size blur takes.
+-- `direct::points::point_sum` meets its contract: the refusal first; then the sum and the weight at the grown place that the same-size blur takes.
 -- Assumes nothing.
 use mathlib.Core.Path.{_≡_, refl, sym, _∙_}
 use native.Mathlib.Omega.{arith}
@@ -93,7 +93,8 @@ window-sum-requires c κs =
 returns-2 : tie.Need-returns-2
 returns-2 c =
     let k = reaches (c .before .before .before .before .before) in
-    told-same _ _ _ _ _ _ _ (none (c .before .before .before .before .before .before)) (k .rowReach) (k .columnReach) (c .before .before .window-sum .ensures)
+    let window = c .before .before .window-sum .ensures in
+    told-same _ _ _ _ _ _ _ _ (none (c .before .before .before .before .before .before)) (k .rowReach) (k .columnReach) (window .0) (window .1)
 
 pub point-sum-spec : {M : Type 1} → statement M
 point-sum-spec =

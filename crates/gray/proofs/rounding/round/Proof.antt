@@ -1,6 +1,6 @@
 -- `gray::rounding::round` meets its contract: the recipe's checks, then 7 for each output and 11, then the greys and leftovers.
 -- Assumes nothing.
-use mathlib.Core.Path.{_≡_, sym, ap, subst, _∙_}
+use mathlib.Core.Path.{_≡_, refl, sym, ap, _∙_}
 use mathlib.Core.Bool.{Bool, true, false, cond}
 use native.Mathlib.Omega.{arith}
 use borrow.Author.Needs.{needs}
@@ -8,10 +8,10 @@ use Rattle.spec.specs.Recipe.{recipe, gain}
 use Rattle.spec.specs.Picture.{largestGray}
 use Rattle.spec.specs.Refusals.{first, roundChecks, tooBright}
 use Rattle.filter.proofs.Refusal.{Known, known, measured-refused}
-use Rattle.gray.specs.Division.{divisor, Divides, Bounded}
+use Rattle.gray.specs.Division.{divisor, Divides}
 use Rattle.gray.specs.Rounded.{checks}
-use Rattle.gray.proofs.Grays.{none-bright, by-length, by-second-length, by-brightness, round-refused, round-all}
-use Rattle.gray.proofs.Dividing.{own-weight, divides-own}
+use Rattle.gray.proofs.Grays.{none-bright, by-length, by-second-length, by-brightness, round-refused, round-all, shaded-made}
+use Rattle.gray.proofs.Dividing.{shades-are}
 use Rattle.gray.proofs.rounding.round.Statement.{statement}
 use Rattle.gray.proofs.rounding.round.Tie as tie
 
@@ -75,16 +75,7 @@ divides c =
     record { notZero = k .accepted .notZero; light = k .accepted .light; is = c .divisor-of .ensures ∙ ap divisor (k .weight) }
 
 round-row-requires : tie.Need-round-row-requires
-round-row-requires c κs =
-    let divided = c .before .before in
-    let over = c .before .before .before .before in
-    let three = c .before .before .before .before .before .before in
-    let bounded = none-bright _ _ _ (sym (bright over) ∙ divided .before .if4 .left) in (
-      divides-own _ _ (divides divided),
-      subst (λ w. Bounded largestGray w (c .before .before .before .before .before .before .before .before .before .before .before .before .args .sums .now)) (sym (own-weight _ _ (divides divided))) bounded,
-      three .before .if2 .left,
-      three .if3 .left,
-    )
+round-row-requires c κs = search needs
 
 same-length : tie.Need-same-length
 same-length c = search needs
@@ -94,9 +85,14 @@ same-length-2 c = search needs
 
 returns-5 : tie.Need-returns-5
 returns-5 c =
-    let row = c .before .before .before .round-row .ensures in
     let divided = c .before .before .before .before .before .before in
-    round-all _ _ _ _ _ _ _ (told (c .before .before .before .before .before .before .before .before) false (divided .before .if4 .left)) (own-weight _ _ (divides divided)) (row .0) (row .1)
+    let over = divided .before .before in
+    let three = over .before .before in
+    let a = divided .before .before .before .before .before .before .before .before .before .before .args in
+    let none = divided .before .if4 .left in
+    let made = shaded-made _ (a .sums .now) _ _ _ _ _ (c .before .before .before .round-row .ensures) (three .before .if2 .left) (three .if3 .left) in
+    let are = shades-are _ _ (divides divided) (a .sums .now) (none-bright _ _ _ (sym (bright over) ∙ none)) in
+    round-all _ _ _ _ _ _ _ (told over false none) refl (made .0 ∙ are .0) (made .1 ∙ are .1)
 
 pub round-spec : {M : Type 1} → statement M
 round-spec =

@@ -1,4 +1,4 @@
--- `gray::same::blur` meets its contract: the answer of `filter::full_size`, case by case.
+-- `blur::same::blur` meets its contract: the answer of `filter::full_size`, case by case.
 -- Assumes nothing.
 use mathlib.Core.Path.{sym, ap, _∙_}
 use borrow.Author.Needs.{needs}
@@ -6,9 +6,9 @@ use Rattle.spec.specs.Refusals.{sizeChecks}
 use Rattle.laws.proofs.Refusals.{read-refused, read-accepted, none-both, recipe-numbered}
 use Rattle.filter.specs.Answers.{sizeTold}
 use Rattle.filter.proofs.Refusal.{known, number-is}
-use Rattle.gray.proofs.Answering.{blur-sides, blur-not}
-use Rattle.gray.proofs.same.blur.Statement.{statement}
-use Rattle.gray.proofs.same.blur.Tie as tie
+use Rattle.blur.proofs.Answering.{blur-sides, blur-not}
+use Rattle.blur.proofs.same.blur.Statement.{statement}
+use Rattle.blur.proofs.same.blur.Tie as tie
 
 full-size-requires : tie.Need-full-size-requires
 full-size-requires c κs = search needs

@@ -11,7 +11,7 @@ use Rattle.spec.specs.Picture.{Picture}
 use Rattle.spec.specs.Gray.{places, sameGray, sameLeftover}
 use Rattle.spec.specs.Refusals.{check, first, otherOutput, tooFewCells, fullSize, sizeChecks, sameSizeChecks}
 use Rattle.laws.proofs.Refusals.{picture-sides, picture-pixels, picture-rest, by-outputs, by-second-output, after-outputs, by-cells, after-cells, lent-refused, lent-accepted, written-not, written-all}
-use Rattle.gray.specs.Blurred.{Blurred, checks}
+use Rattle.blur.specs.Blurred.{Blurred, checks}
 
 module _ (r : Recipe) (p : Picture) (out left cells : ℕ) where
   abbrev number : ℕ

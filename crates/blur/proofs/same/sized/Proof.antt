@@ -1,4 +1,4 @@
--- `gray::same::sized` meets its contract, check by check, and then by that of `run`.
+-- `blur::same::sized` meets its contract, check by check, and then by that of `run`.
 -- Assumes nothing.
 use mathlib.Core.Path.{_≡_, sym, ap, _∙_}
 use Prim.Native.Nat.{_+_, _-_, _*_, _≤_}
@@ -13,9 +13,9 @@ use Rattle.spec.specs.Refusals.{fullSize}
 use Rattle.laws.proofs.Slices.{front-lent}
 use Rattle.laws.proofs.Refusals.{Sized, is-sized, picture-passed}
 use Rattle.rows.proofs.Taking.{Grown, grown}
-use Rattle.gray.proofs.Answering.{blur-pixels, blur-output, blur-leftovers, blur-cells, blur-none, blur-not, blur-all}
-use Rattle.gray.proofs.same.sized.Statement.{statement}
-use Rattle.gray.proofs.same.sized.Tie as tie
+use Rattle.blur.proofs.Answering.{blur-pixels, blur-output, blur-leftovers, blur-cells, blur-none, blur-not, blur-all}
+use Rattle.blur.proofs.same.sized.Statement.{statement}
+use Rattle.blur.proofs.same.sized.Tie as tie
 
 -- the sides, and the sizes that are computed
 sides : (c : tie.Start) → Sized (c .args .sides .width) (c .args .sides .height)

@@ -1,22 +1,23 @@
-// Document 01's same-size blur with document 02's leftovers: the one pass over the picture, each grown row
-// that is taken rounded as it comes.
+// Document 01's same-size blur with document 02's leftovers, by the inside weight: the one pass over the
+// picture, each grown row that is taken rounded as it comes.
 ghost use mathlib.Core.Path.{_≡_};
 ghost use Prim.Native.Nat.{_*_};
 ghost use lib.ListN.{length};
-ghost use Rattle.spec.specs.Recipe.{recipe, gain};
+ghost use Rattle.spec.specs.Recipe.{recipe};
 ghost use Rattle.spec.specs.Picture.{picture, fullWidth};
 ghost use Rattle.spec.specs.Gray.{places, sameGray, sameLeftover};
 ghost use Rattle.spec.specs.Refusals.{first, sizeChecks, pictureChecks, fullSize};
 ghost use Rattle.filter.proofs.Refusal.{Known};
 ghost use Rattle.rows.specs.Streaming.{pictureOf};
 ghost use Rattle.rows.specs.Taking.{Taken};
-ghost use Rattle.gray.specs.Division.{Divides};
-ghost use Rattle.gray.specs.Blurred.{Blurred};
-use crate::rounding::Divisor;
-use crate::rounding::divisor_of;
-use crate::rounding::round_row;
+ghost use Rattle.filter.specs.Axis.{axisWeights};
+ghost use Rattle.blur.specs.Blurred.{Blurred};
+use crate::rims::next_band;
+use crate::rims::no_band;
+use crate::rims::shade_row;
 use filter::FullSize;
 use filter::Measures;
+use filter::axis_weights;
 use filter::full_size;
 use filter::measure;
 use rows::advance;
@@ -26,18 +27,21 @@ use stream::State;
 use stream::start;
 
 // The greys and leftovers of all picture rows, from a state whose next grown row is the first that is
-// taken; `left` is the first grown column that is.
+// taken; `left` is the first grown column that is. The inside weights are those along a row, times those
+// down a column.
 fn gray_rows(
     state: State,
-    by: Divisor,
     left: usize,
+    across: &[u64],
+    down: &[u64],
     pixels: &[u8],
     row: &mut [u64],
     out: &mut [u8],
     leftovers: &mut [i64],
     cells: &mut [u64],
 )
-    requires { ⌜ Taken state left (now pixels) (now row) (now cells) × Divides (gain (recipe (state .filter))) by
+    requires { ⌜ Taken state left (now pixels) (now row) (now cells)
+        × (now across ≡ axisWeights (recipe (state .filter) .rows) (state .width)) × (now down ≡ axisWeights (recipe (state .filter) .columns) (state .height))
         × (length (now out) ≡ state .width * state .height) × (length (now leftovers) ≡ state .width * state .height) ⌝ }
     ensures { λ r. let p = pictureOf state (now (pixels .entry)) in let f = recipe (state .filter) in
         ⌜ (now (out .exit) ≡ places p (sameGray f p)) × (now (leftovers .exit) ≡ places p (sameLeftover f p)) ⌝ }
@@ -46,11 +50,16 @@ fn gray_rows(
     let right = left + width;
     let mut at = state;
     let mut from: usize = 0;
+    let mut reciprocals = [0u64; 1024];
+    let mut band = no_band(across);
     for j in 0..state.height {
         at = advance(at, pixels, row, cells).state;
         let to = from + width;
-        round_row(
-            by,
+        band = next_band(band, down[j], across, &mut reciprocals);
+        shade_row(
+            band,
+            across,
+            &reciprocals,
             &row[left..right],
             &mut out[from..to],
             &mut leftovers[from..to],
@@ -86,10 +95,18 @@ fn run(
     let above = m.column_order / 2;
     let first = start(filter, sides.width, sides.height, cells).state;
     let state = skip(first, above, pixels, row, cells);
+    let z: usize = 0;
+    let width = sides.width;
+    let height = sides.height;
+    let mut across = [0u64; 1024];
+    let mut down = [0u64; 1024];
+    axis_weights(filter.rows, width, &mut across[z..width]);
+    axis_weights(filter.columns, height, &mut down[z..height]);
     gray_rows(
         state,
-        divisor_of(m.gain),
         m.row_order / 2,
+        &across[z..width],
+        &down[z..height],
         pixels,
         row,
         out,

@@ -1,0 +1,4 @@
+pub mod Answering
+pub mod Leftovers
+pub mod Parts
+pub mod Weights

@@ -1,0 +1,3 @@
+pub mod Blurred
+pub mod Leftovers
+pub mod Rims
