@@ -52,6 +52,7 @@ pub fn divisor_with(weight: u64, reciprocal: u64) -> Divisor
     }
 }
 
+// A weight to divide by.
 pub fn divisor_of(weight: u64) -> Divisor
     ensures { λ r. ⌜ r ≡ divisor weight ⌝ }
 {
@@ -81,7 +82,7 @@ pub fn rounded(sum: u64, by: Divisor) -> u64
     }
 }
 
-// A number of 64 bits, read with a sign.
+// A number of 64 bits, read with a sign: from 2^63 on it is less by 2^64.
 fn signed(n: u64) -> i64
     ensures { λ r. ⌜ r ≡ signed64 n ⌝ }
 {
