@@ -6,7 +6,7 @@ use mathlib.Core.Logic.{_⊎_, inl, inr, ⊎-elim}
 use mathlib.Core.Bool.{Bool, true, false, cond}
 use mathlib.Core.List.{List, _++_, map}
 use Prim.Native.Nat.{ℕ, _+_, _-_, _*_, _^_, _≤_, _<_}
-use native.Mathlib.Nat.{le-refl, mul-zero, div-zero}
+use native.Mathlib.Nat.{mul-zero, div-zero}
 use native.Mathlib.Decide.{decLe, decLt}
 use native.Mathlib.Omega.{arith}
 use borrow.Author.Tests.{eqb-true, eqb-false}
@@ -20,7 +20,7 @@ use Rattle.gray.specs.declared.rounding.Divisor.{Divisor}
 use Rattle.gray.specs.Division.{reciprocalBits, reciprocalOf, divisorWith, divisor, Divides}
 use Rattle.blur.specs.declared.rims.Span.{Span}
 use Rattle.blur.specs.declared.rims.Band.{Band}
-use Rattle.blur.specs.Rims.{weightAt, Weighty, Dim, Level, AtRim, rimPlace, OnRims, Inverted, Ready, Shades, shaded}
+use Rattle.blur.specs.Rims.{weightAt, Weighty, Dim, Level, AtRim, rimPlace, Inverted, Ready, Shades, shaded}
 
 -- ---- the places of the rims
 

@@ -1,7 +1,7 @@
 -- What filling in the inside weights along one axis answers: a box of the line's length on the coefficients, by their running totals, and
 -- the checks, from what measuring the list as a recipe of its own does.
 -- Assumes nothing.
-use mathlib.Core.Path.{_≡_, refl, sym, ap, _∙_}
+use mathlib.Core.Path.{_≡_, sym, ap, _∙_}
 use mathlib.Core.Bool.{true, false, cond}
 use mathlib.Core.List.{List, [], _∷_}
 use Prim.Native.Nat.{ℕ, suc, _+_, _-_, _/_, _≤_, _<_, min}
@@ -9,13 +9,13 @@ use native.Mathlib.Decide.{decLe, decLt}
 use native.Mathlib.Omega.{arith}
 use lib.ListN.{length, List·getD-eq-default}
 use Rattle.spec.specs.Words.{sum, tab}
-use Rattle.spec.specs.Recipe.{kernel, order, weight}
+use Rattle.spec.specs.Recipe.{kernel, order}
 use Rattle.spec.specs.Gray.{insideWeight}
 use Rattle.spec.specs.Refusals.{check, first, otherOutput, badSide, alone, recipeChecks, cellChecks}
 use Rattle.laws.proofs.Sums.{sum-front}
 use Rattle.laws.proofs.Lists.{length-tab, getD-tab, tab-agree}
 use Rattle.laws.proofs.Sequences.{behind, boxed, running, behind-within, behind-before, boxed-running}
-use Rattle.laws.proofs.Kernels.{at, length-kernel, holds-tab}
+use Rattle.laws.proofs.Kernels.{at}
 use Rattle.laws.proofs.Refusals.{first-front, first-rest, recipe-numbered, numbered-more, lent-refused, lent-accepted, by-output, after-output}
 use Rattle.laws.proofs.Inside.{inside-alone, axis-box}
 use Rattle.filter.specs.declared.checks.Measures.{Measures}
@@ -69,11 +69,6 @@ module _ (ks totals : List ℕ) (some : 0 < length ks) (is : totals ≡ tab (len
 
     pub apart-box : apart totals n i ≡ boxed n (at ks) i
     apart-box = omega (arith, earlier-total, last-total i, boxed-running (at ks) n i)
-
--- a slice that holds the coefficients as far as it goes, and goes as far as they do
-pub whole-kernel : (ns : List ℕ) → 0 < weight ns → (l : List ℕ) (n : ℕ) → n ≡ order ns + 1 → l ≡ tab n (at (kernel ns)) → l ≡ kernel ns
-whole-kernel ns h l n e is =
-    is ∙ ap (λ k. tab k (at (kernel ns))) (e ∙ sym (length-kernel ns h)) ∙ sym (holds-tab (at (kernel ns)) (kernel ns) (λ k l. refl))
 
 -- ---- the answer
 

@@ -18,6 +18,11 @@ use Rattle.filter.specs.Measured.{measured}
 use Rattle.filter.specs.Coefficients.{KernelFilled}
 use Rattle.filter.proofs.Refusal.{Known, known, measured-refused, measured-then}
 
+-- a slice that holds the coefficients as far as it goes, and goes as far as they do
+pub whole-kernel : (ns : List ℕ) → 0 < weight ns → (l : List ℕ) (n : ℕ) → n ≡ order ns + 1 → l ≡ tab n (at (kernel ns)) → l ≡ kernel ns
+whole-kernel ns h l n e is =
+    is ∙ ap (λ k. tab k (at (kernel ns))) (e ∙ sym (length-kernel ns h)) ∙ sym (holds-tab (at (kernel ns)) (kernel ns) (λ k l. refl))
+
 module _ (ns old : List ℕ) (m : Measures) (s : m ≡ measured (alone ns)) where
   -- a refusal by 1 to 4
   pub filled-refused : (m .refusal ≡ 0 → ⊥) → KernelFilled ns old (m .refusal) old
@@ -59,12 +64,7 @@ module _ (ns old : List ℕ) (m : Measures) (s : m ≡ measured (alone ns)) wher
         let size : length old ≡ order ns + 1 = l ∙ ap (λ n. n + 1) reach in
         let e : first (kernelChecks ns (length old)) ≡ 0 =
         by-length ∙ ap (λ b. cond (not b) 7 0) (eq-eqb (length old) (order ns + 1) size) in
-        let whole : length old ≡ length (kernel ns) = size ∙ sym (length-kernel ns (list-weight .0)) in
         record {
           answer = sym e;
-          slice =
-              p
-              ∙ ap (λ n. tab n (at (kernel ns))) whole
-              ∙ sym (holds-tab (at (kernel ns)) (kernel ns) (λ k h. refl))
-              ∙ sym (lent-accepted _ (kernel ns) old e);
+          slice = whole-kernel ns (list-weight .0) new (length old) size p ∙ sym (lent-accepted _ (kernel ns) old e);
         }

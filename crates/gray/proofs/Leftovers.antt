@@ -1,6 +1,6 @@
 -- The claim of specs/Leftovers.antt: each leftover that rounding leaves is that of its sum, which lies so.
 -- Assumes nothing.
-use mathlib.Core.Path.{_≡_, sym, ap, subst, _∙_}
+use mathlib.Core.Path.{sym, ap, subst, _∙_}
 use lib.IntN.{pos}
 use lib.ListN.{length, getD}
 use Rattle.spec.specs.Recipe.{gain}

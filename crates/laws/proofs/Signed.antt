@@ -7,7 +7,7 @@ use native.Mathlib.Decide.{decLt}
 use native.Mathlib.Omega.{arith}
 use borrow.Author.Tests.{lt-ltb, le-ltb}
 use lib.Dec.{le→leb}
-use lib.IntN.{ℤ, pos, negsuc, negℤ, _-ℤ_, +ℤ-idl}
+use lib.IntN.{pos, negsuc, negℤ, _-ℤ_, +ℤ-idl}
 use lib.Signed.{mag, _≤ℤ_}
 use mir.Syntax.{Width}
 use mir.Val.{SFits, hbits, toZ}

@@ -8,7 +8,7 @@ use native.Mathlib.Nat.{le-refl, add-sub-of-le, sub-zero}
 use native.Mathlib.Decide.{decLt}
 use native.Mathlib.Numerals.{add-one}
 use native.Mathlib.Omega.{arith}
-use lib.ListN.{length, getD, take, drop, set, length-append, length-drop, take-append-drop, drop-of-length-le, List·getD-append}
+use lib.ListN.{length, getD, take, drop, set, length-append, length-drop, drop-of-length-le, List·getD-append}
 use Rattle.spec.specs.Words.{tab}
 use Rattle.laws.proofs.Lists.{length-tab, getD-tab}
 use lib.Seq.{length-take-le, take-all, take-at, take-suc, drop-cons, append-snoc, set-at, getD-take, getD-drop, getD-append-add, ext-getD}

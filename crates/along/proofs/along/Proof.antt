@@ -3,7 +3,6 @@
 use Rattle.spec.specs.Recipe.{widths}
 use Rattle.filter.proofs.Widths.{length-widths}
 use Rattle.along.proofs.Answers.{long-list, long-row, both-fit, refused, answered, black}
-use Prim.Native.Nat.{_-_}
 use native.Mathlib.Omega.{arith}
 use borrow.Author.Needs.{needs}
 use lib.ListN.{length}

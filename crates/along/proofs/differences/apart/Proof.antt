@@ -6,7 +6,7 @@ use Rattle.along.specs.Private.{lessEarlier}
 use Rattle.along.proofs.Backwards.{apart-more, apart-all}
 use mathlib.Core.Path.{_≡_, refl}
 use mathlib.Core.List.{List}
-use Prim.Native.Nat.{ℕ, _-_, _≤_}
+use Prim.Native.Nat.{ℕ, _≤_}
 use native.Mathlib.Omega.{arith}
 use borrow.Author.Needs.{needs}
 use lib.ListN.{length, length-set}

@@ -4,7 +4,6 @@ use mathlib.Core.Bool.{cond}
 use Rattle.along.specs.Private.{differences}
 use Rattle.along.proofs.Boxes.{wide-one, wide-two, wide-other}
 use mathlib.Core.Path.{sym, ap, _∙_}
-use Prim.Native.Nat.{_-_}
 use borrow.Author.Needs.{needs}
 use Rattle.along.proofs.differences.apart_if_wide.Statement.{statement}
 use Rattle.along.proofs.differences.apart_if_wide.Tie as tie

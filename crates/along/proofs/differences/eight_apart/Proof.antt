@@ -1,7 +1,6 @@
 -- `along::differences::eight_apart` meets its contract: the copy is the part n places earlier, and the part that was lent comes back.
 -- Assumes nothing.
 use Rattle.along.proofs.Backwards.{eight-made}
-use Prim.Native.Nat.{_-_}
 use borrow.Author.Needs.{needs}
 use Rattle.along.proofs.differences.eight_apart.Statement.{statement}
 use Rattle.along.proofs.differences.eight_apart.Tie as tie

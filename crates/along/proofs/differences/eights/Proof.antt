@@ -4,7 +4,7 @@ use Rattle.laws.proofs.Slices.{Leftwards, leftwards-none}
 use Rattle.along.specs.Private.{lessEarlier}
 use Rattle.along.proofs.Backwards.{eight-more}
 use mathlib.Core.Path.{_≡_, _∙_}
-use Prim.Native.Nat.{_-_, _≤_}
+use Prim.Native.Nat.{_≤_}
 use native.Mathlib.Omega.{arith}
 use borrow.Author.Needs.{needs}
 use lib.ListN.{length}

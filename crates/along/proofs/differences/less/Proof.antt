@@ -1,7 +1,6 @@
 -- `along::differences::less` meets its contract: the machine's answer is the difference modulo 2^64.
 -- Assumes nothing.
 use Rattle.along.specs.Private.{minus}
-use Prim.Native.Nat.{_-_}
 use native.Mathlib.Omega.{arith}
 use borrow.Author.Needs.{needs}
 use Rattle.along.proofs.differences.less.Statement.{statement}

@@ -3,7 +3,6 @@
 use Rattle.along.specs.Private.{totalled}
 use Rattle.along.proofs.Rows.{repeat-less, repeat-once}
 use mathlib.Core.Path.{refl, _∙_}
-use Prim.Native.Nat.{_-_}
 use native.Mathlib.Omega.{arith}
 use borrow.Author.Needs.{needs}
 use Rattle.along.proofs.totals.first_sums.Statement.{statement}

@@ -1,12 +1,12 @@
 -- `blur::rims::invert` meets its contract: at each turn the reciprocals stand at all places of the rims before the next.
 -- Assumes nothing.
-use mathlib.Core.Path.{_≡_, sym, subst, _∙_}
-use Prim.Native.Nat.{ℕ, _-_, _*_, _≤_, _<_}
+use mathlib.Core.Path.{_≡_, sym, subst}
+use Prim.Native.Nat.{ℕ, _-_, _<_}
 use native.Mathlib.Omega.{arith}
 use borrow.Author.Needs.{needs}
 use lib.ListN.{length, getD, length-set}
 use Rattle.gray.specs.Division.{reciprocalOf}
-use Rattle.blur.specs.Rims.{weightAt, AtRim, rimPlace}
+use Rattle.blur.specs.Rims.{weightAt, AtRim}
 use Rattle.blur.proofs.Parts.{rim-first, rim-next, rim-later, none-before, stored}
 use Rattle.blur.proofs.rims.invert.Statement.{statement}
 use Rattle.blur.proofs.rims.invert.Tie as tie

@@ -1,7 +1,7 @@
 -- `blur::rims::rims` meets its contract: at each turn greys and leftovers stand at all places of the rims before the next.
 -- Assumes nothing.
 use mathlib.Core.Path.{_≡_, sym, subst, _∙_}
-use Prim.Native.Nat.{ℕ, _-_, _*_, _≤_, _<_}
+use Prim.Native.Nat.{ℕ, _-_, _≤_, _<_}
 use native.Mathlib.Omega.{arith}
 use borrow.Author.Needs.{needs}
 use lib.IntN.{pos}
@@ -12,7 +12,7 @@ use mir.ValLaws.{toZ-ofZ}
 use Rattle.spec.specs.Gray.{gray, leftover}
 use Rattle.gray.specs.Division.{Divides}
 use Rattle.gray.proofs.Dividing.{shade-is}
-use Rattle.blur.specs.Rims.{weightAt, AtRim, rimPlace}
+use Rattle.blur.specs.Rims.{weightAt, AtRim}
 use Rattle.blur.proofs.Parts.{rim-first, rim-next, rim-later, none-before, stored, rim-divides}
 use Rattle.blur.proofs.rims.rims.Statement.{statement}
 use Rattle.blur.proofs.rims.rims.Tie as tie

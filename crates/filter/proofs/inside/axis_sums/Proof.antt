@@ -1,7 +1,7 @@
 -- `filter::inside::axis_sums` meets its contract: the coefficients are formed, and then the box on them.
 -- Assumes nothing.
-use mathlib.Core.Path.{_≡_, refl, sym, ap, ap₂, _∙_}
-use Prim.Native.Nat.{ℕ, _+_, _-_, _*_, _/_, _^_, _≤_, _<_}
+use mathlib.Core.Path.{_≡_, ap, _∙_}
+use Prim.Native.Nat.{_+_, _-_, _/_}
 use native.Mathlib.Omega.{arith}
 use borrow.Author.Needs.{needs}
 use lib.ListN.{length}
@@ -9,7 +9,7 @@ use Rattle.spec.specs.Words.{tab}
 use Rattle.spec.specs.Recipe.{widths, kernel, order}
 use Rattle.laws.proofs.Sequences.{boxed}
 use Rattle.laws.proofs.Kernels.{at, kernel-sum, length-kernel}
-use Rattle.filter.proofs.Axes.{whole-kernel}
+use Rattle.filter.proofs.Filling.{whole-kernel}
 use Rattle.filter.proofs.inside.axis_sums.Statement.{statement}
 use Rattle.filter.proofs.inside.axis_sums.Tie as tie
 

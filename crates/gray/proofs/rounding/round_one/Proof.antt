@@ -9,7 +9,7 @@ use borrow.Author.Needs.{needs}
 use mir.Syntax.{w64}
 use mir.Val.{SFits}
 use mir.ValLaws.{toZ-ofZ}
-use Rattle.gray.specs.Division.{quotient, multiple, signed64, shadeGray, shadeLeftover}
+use Rattle.gray.specs.Division.{multiple, signed64, shadeGray, shadeLeftover}
 use Rattle.gray.proofs.rounding.round_one.Statement.{statement}
 use Rattle.gray.proofs.rounding.round_one.Tie as tie
 

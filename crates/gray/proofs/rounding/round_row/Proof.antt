@@ -1,9 +1,7 @@
 -- `gray::rounding::round_row` meets its contract: 7 for either output, and then greys and leftovers are written from the left.
 -- Assumes nothing.
 use mathlib.Core.Path.{_≡_, sym, _∙_}
-use mathlib.Core.List.{List}
-use Prim.Native.Nat.{ℕ, _-_, _≤_}
-use native.Mathlib.Omega.{arith}
+use Prim.Native.Nat.{_-_, _≤_}
 use borrow.Author.Needs.{needs}
 use lib.ListN.{length, getD, length-set}
 use mir.Syntax.{w64}

@@ -16,7 +16,7 @@ use Rattle.stream.proofs.Both.{both-lists}
 use Rattle.stream.proofs.RowList.{row-after, total-small, total-kept, row-list}
 use mathlib.Core.Path.{_≡_, refl, sym, ap, _∙_}
 use mathlib.Core.List.{_++_}
-use Prim.Native.Nat.{ℕ, _-_, _*_, _≤_, _<_}
+use Prim.Native.Nat.{ℕ, _-_, _*_, _≤_}
 use native.Mathlib.Omega.{arith}
 use borrow.Author.Needs.{needs}
 use Rattle.stream.proofs.cascades.work.Statement.{statement}

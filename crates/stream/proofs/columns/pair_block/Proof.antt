@@ -5,7 +5,7 @@ use Rattle.stream.specs.Private.{pairsFrom}
 use Rattle.stream.proofs.Acting.{length-array, block-long, block-out}
 use mathlib.Core.Path.{_≡_, _∙_}
 use mathlib.Core.List.{List, _++_}
-use Prim.Native.Nat.{ℕ, _+_, _-_}
+use Prim.Native.Nat.{ℕ, _-_}
 use native.Mathlib.Omega.{arith}
 use lib.ListN.{length, take, drop, replicate}
 use borrow.Author.Needs.{needs}

@@ -4,7 +4,7 @@ use Rattle.laws.proofs.Lists.{length-tab}
 use Rattle.stream.proofs.Acting.{slot-lent, length-array}
 use mathlib.Core.Path.{_≡_, ap, _∙_}
 use mathlib.Core.List.{_++_}
-use Prim.Native.Nat.{_+_, _-_}
+use Prim.Native.Nat.{_-_}
 use native.Mathlib.Omega.{arith}
 use lib.ListN.{length, drop, replicate}
 use borrow.Author.Needs.{needs}
