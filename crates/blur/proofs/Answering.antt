@@ -1,16 +1,18 @@
 -- What the same-size blur answers: the order of its checks, and what is left where one of them holds and where none does.
 -- Assumes nothing.
-use mathlib.Core.Path.{_≡_, sym, _∙_}
+use mathlib.Core.Path.{_≡_, sym, ap, _∙_}
 use mathlib.Core.Bool.{_||_}
 use mathlib.Core.List.{List, [], _∷_, _++_}
-use Prim.Native.Nat.{ℕ, _*_, _≤_, _<_}
+use Prim.Native.Nat.{ℕ, _+_, _*_, _≤_, _<_}
+use native.Mathlib.Nat.{mul-comm}
 use lib.IntN.{ℤ}
-use lib.ListN.{length, take, drop}
+use lib.ListN.{length, getD, take, drop}
 use Rattle.spec.specs.Recipe.{Recipe}
 use Rattle.spec.specs.Picture.{Picture}
 use Rattle.spec.specs.Gray.{places, sameGray, sameLeftover}
-use Rattle.spec.specs.Refusals.{check, first, otherOutput, tooFewCells, fullSize, sizeChecks, sameSizeChecks}
+use Rattle.spec.specs.Refusals.{Check, check, first, lent, otherOutput, tooFewCells, fullSize, sizeChecks, sameSizeChecks}
 use Rattle.laws.proofs.Refusals.{picture-sides, picture-pixels, picture-rest, by-outputs, by-second-output, after-outputs, by-cells, after-cells, lent-refused, lent-accepted, written-not, written-all}
+use Rattle.laws.proofs.Rows.{length-rows, getD-rows}
 use Rattle.blur.specs.Blurred.{Blurred, checks}
 
 module _ (r : Recipe) (p : Picture) (out left cells : ℕ) where
@@ -63,3 +65,16 @@ module _ (r : Recipe) (p : Picture) (out : List ℕ) (left : List ℤ) (cells : 
       → Blurred r p out left cells 0 newOut newLeft newCells
   blur-all e newOut newLeft newCells m l w n =
       record { grays = written-all _ _ _ _ _ e newOut newCells m w n; leftovers = l ∙ sym (lent-accepted _ _ left e) }
+
+-- where no check holds, a slice that is left has one entry for each picture place
+module _ {A : Type 0} (p : Picture) (f : ℕ → ℕ → A) (d : A) (cs : List Check) (none : first cs ≡ 0) (old new : List A) (is : new ≡ lent cs (places p f) old) where
+  made : new ≡ places p f
+  made = is ∙ lent-accepted cs (places p f) old none
+
+  pub left-size : length new ≡ p .width * p .height
+  unfolding places
+  left-size = ap length made ∙ length-rows (p .width) (p .height) (λ j i. f i j) ∙ mul-comm (p .height) (p .width)
+
+  pub left-at : (i j : ℕ) → i < p .width → j < p .height → getD new (j * p .width + i) d ≡ f i j
+  unfolding places
+  left-at i j h l = ap (λ x. getD x (j * p .width + i) d) made ∙ getD-rows (p .width) (p .height) (λ j i. f i j) d j i l h

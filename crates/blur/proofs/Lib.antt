@@ -1,4 +1,5 @@
 pub mod Answering
 pub mod Leftovers
+pub mod Between
 pub mod Parts
 pub mod Weights

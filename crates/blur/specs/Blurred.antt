@@ -7,7 +7,7 @@ use lib.ListN.{length}
 use Rattle.spec.specs.Recipe.{Recipe}
 use Rattle.spec.specs.Picture.{Picture}
 use Rattle.spec.specs.Gray.{places, sameGray, sameLeftover}
-use Rattle.spec.specs.Refusals.{Check, Written, lent, fullSize, sameSizeChecks}
+use Rattle.spec.specs.Refusals.{Check, Written, first, lent, fullSize, sameSizeChecks}
 
 -- the checks of a call that lends these slices for greys, for leftovers and for work
 abbrev pub checks : Recipe → Picture → List ℕ → List ℤ → List ℕ → List Check
@@ -18,3 +18,15 @@ pub record Blurred (r : Recipe) (p : Picture) (out : List ℕ) (left : List ℤ)
   pub grays : Written (checks r p out left cells) (places p (sameGray r p)) (2 * fullSize r p) out cells number newOut newCells
   -- the leftover at each picture place, or on a refusal what the slice held
   pub leftovers : newLeft ≡ lent (checks r p out left cells) (places p (sameLeftover r p)) left
+
+-- a call to which no check applies: what it is lent, and what it answers and leaves, anything that the contract admits
+pub record Call (r : Recipe) (p : Picture) : Type 0 where
+  pub out : List ℕ
+  pub left : List ℤ
+  pub cells : List ℕ
+  pub number : ℕ
+  pub newOut : List ℕ
+  pub newLeft : List ℤ
+  pub newCells : List ℕ
+  pub none : first (checks r p out left cells) ≡ 0
+  pub told : Blurred r p out left cells number newOut newLeft newCells

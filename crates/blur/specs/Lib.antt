@@ -1,3 +1,4 @@
 pub mod Blurred
 pub mod Leftovers
+pub mod Between
 pub mod Rims

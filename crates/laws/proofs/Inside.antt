@@ -1,15 +1,14 @@
 -- The inside weight: the claims of spec/specs/Inside.antt. It is the product of two sums along the axes, each a box filter of the side on
 -- the coefficients; every coefficient within the reach is at least 1.
 -- Assumes nothing.
-use mathlib.Core.Path.{_≡_, refl, sym, ap, ap₂, subst, _∙_}
+use mathlib.Core.Path.{_≡_, refl, sym, ap, ap₂, _∙_}
 use mathlib.Core.Bool.{Bool, true, false, cond, _&&_}
 use mathlib.Core.List.{List, [], _∷_}
-use Prim.Native.Nat.{ℕ, zero, suc, _+_, _-_, _*_, _/_, _≤_, _<_}
+use Prim.Native.Nat.{ℕ, suc, _+_, _-_, _*_, _/_, _≤_, _<_}
 use native.Mathlib.Nat.{le-refl, le-trans, le-of-eq, zero-add, mul-comm, mul-assoc, mul-one, one-mul, mul-zero, zero-mul, mul-pos, mul-le-mul, mul-le-mul-left, add-mul, div-eq-of-lt-le}
-use native.Mathlib.Decide.{decLe}
+use native.Mathlib.Decide.{decLe, decLt}
 use native.Mathlib.Omega.{arith}
 use lib.Dec.{leb, ltb}
-use lib.IntN.{pos, _-ℤ_}
 use lib.ListN.{getD, replicate, getD-replicate}
 use borrow.Author.Tests.{ltb-true, lt-ltb}
 use Rattle.spec.specs.Words.{sum, total, product}
@@ -18,14 +17,15 @@ use Rattle.spec.specs.Picture.{Picture, Within, pixel, pixelBack, exact}
 use Rattle.spec.specs.Gray.{gray, leftover, sameColumn, sameRow, sameSum, plain, insideWeight, placeWeight, sameGray, sameLeftover, expressed, reading}
 use Rattle.spec.specs.Refusals.{alone}
 use Rattle.spec.specs.Inside.{InsideProduct, InsideFits, SumsInside, AwayFromRim, PlainKept}
+use Rattle.spec.specs.Between.{Raised}
 use Rattle.laws.proofs.Sums.{sum-agree, sum-le, sum-scale, sum-grows, sum-front}
 use Rattle.laws.proofs.Lists.{first-pos, rest-pos}
-use Rattle.laws.proofs.Numbers.{row-fits}
+use Rattle.laws.proofs.Numbers.{place-fits}
 use Rattle.laws.proofs.Sequences.{behind, boxed, running, behind-zero, behind-within, behind-before, boxed-running, boxed-whole}
-use Rattle.laws.proofs.Convolution.{conv, ones, conv-comm, boxed-conv}
+use Rattle.laws.proofs.Convolution.{ones, conv-comm, boxed-conv}
 use Rattle.laws.proofs.Kernels.{at, at-kernel, kernel-sum, impulse-start}
 use Rattle.laws.proofs.Cascades.{conv-short, kernel-short}
-use Rattle.laws.proofs.Exact.{rows-pos, columns-pos}
+use Rattle.laws.proofs.Exact.{pixel-right, pixel-below, pixel-inside, rows-pos, columns-pos}
 use Rattle.laws.proofs.Refusals.{is-accepted-picture}
 use Rattle.laws.proofs.Signed.{same-apart}
 
@@ -41,10 +41,7 @@ unfolding pixelBack pixel plain behind ones
 plain-back w h c i a j b = go (leb a i) (leb b j) (ltb (i - a) w) (ltb (j - b) h) stored
   where
     stored : ltb (i - a) w ≡ true → ltb (j - b) h ≡ true → getD (replicate (w * h) c) ((j - b) * w + (i - a)) 0 ≡ c
-    stored p q =
-        let x : i - a < w = ltb-true (i - a) w p in
-        let y : j - b < h = ltb-true (j - b) h q in
-        getD-replicate (w * h) ((j - b) * w + (i - a)) c 0 (omega (arith, row-fits w (j - b) h y, mul-comm w h))
+    stored p q = getD-replicate (w * h) ((j - b) * w + (i - a)) c 0 (place-fits w h (i - a) (j - b) (ltb-true (i - a) w p) (ltb-true (j - b) h q))
 
     go : (s t u v : Bool) → (u ≡ true → v ≡ true → getD (replicate (w * h) c) ((j - b) * w + (i - a)) 0 ≡ c)
         → cond (s && t) (cond (u && v) (getD (replicate (w * h) c) ((j - b) * w + (i - a)) 0) 0) 0
@@ -235,21 +232,33 @@ exact-rises r p q u i j =
     go true a b = u (i - a) (j - b)
     go false a b = le-refl 0
 
+-- pictures of the same sides, of which the one is at most the other at every picture place: outside both are black
+pub raised-under : (p q : Picture) → Raised p q → Under p q
+raised-under p q u i j =
+    elim (decLt i (p .width)) [
+      | yes x ↦
+          elim (decLt j (p .height)) [
+            | yes y ↦ u .pixels i j x y
+            | no y ↦ le-of-eq (pixel-below p i j (omega arith) ∙ sym (pixel-below q i j (omega (arith, u .height))))
+          ]
+      | no x ↦ le-of-eq (pixel-right p i j (omega arith) ∙ sym (pixel-right q i j (omega (arith, u .width))))
+    ]
+
+-- a plain picture at a picture place
+pub plain-pixel : (w h c i j : ℕ) → i < w → j < h → pixel (plain w h c) i j ≡ c
+unfolding plain at
+plain-pixel w h c i j x y = pixel-inside (plain w h c) i j x y ∙ getD-replicate (w * h) (j * w + i) c 0 (place-fits w h i j x y)
+
 -- a picture of pixels of at most so much lies under the plain one
 under-plain : (most : ℕ) (p : Picture) → Within most p → Under p (plain (p .width) (p .height) most)
-unfolding pixel plain
-under-plain most p small i j = go (ltb i (p .width)) (ltb j (p .height)) (ltb-true i (p .width)) (ltb-true j (p .height))
-  where
-    k : ℕ
-    k = j * p .width + i
-
-    go : (s t : Bool) → (s ≡ true → i < p .width) → (t ≡ true → j < p .height)
-        → cond (s && t) (getD (p .pixels) k 0) 0 ≤ cond (s && t) (getD (replicate (p .width * p .height) most) k 0) 0
-    go true true x y =
-        le-trans (small k)
-        (le-of-eq (sym (getD-replicate (p .width * p .height) k most 0 (omega (arith, x refl, row-fits (p .width) j (p .height) (y refl), mul-comm (p .width) (p .height))))))
-    go true false x y = le-refl 0
-    go false t x y = le-refl 0
+unfolding plain at
+under-plain most p small =
+    raised-under p (plain (p .width) (p .height) most)
+    (record {
+      width = refl;
+      height = refl;
+      pixels = λ i j x y. omega (arith, pixel-inside p i j x y, small (j * p .width + i), plain-pixel (p .width) (p .height) most i j x y);
+    })
 
 pub sums-inside : SumsInside
 unfolding placeWeight sameSum

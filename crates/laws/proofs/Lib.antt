@@ -18,5 +18,6 @@ pub mod Flat
 pub mod Joining
 pub mod Ladder
 pub mod Inside
+pub mod Between
 pub mod Ranges
 pub mod Sameness

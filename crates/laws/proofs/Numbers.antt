@@ -3,7 +3,7 @@
 use mathlib.Core.Path.{_≡_, refl, sym, ap}
 use mathlib.Core.Bool.{Bool, true, false, _||_, _&&_, true≢false}
 use Prim.Native.Nat.{ℕ, zero, suc, _+_, _*_, _≤_, _<_, min}
-use native.Mathlib.Nat.{zero-lt-suc, mul-zero, zero-mul, mul-pos, suc-mul, mul-le-mul-right, le-mul-of-pos-right}
+use native.Mathlib.Nat.{zero-lt-suc, mul-zero, zero-mul, mul-pos, mul-comm, suc-mul, mul-le-mul-right, le-mul-of-pos-right}
 use native.Mathlib.Decide.{decLe}
 use native.Mathlib.Omega.{arith}
 use lib.Dec.{eqb, eqb·suc-zero}
@@ -29,6 +29,10 @@ pub row-fits : (w j rows : ℕ) → j < rows → j * w + w ≤ rows * w
 row-fits w j rows h =
     let g : suc j * w ≤ rows * w = mul-le-mul-right w h in
     omega (arith, suc-mul j w)
+
+-- and place i of it is one of all w * h
+pub place-fits : (w h i j : ℕ) → i < w → j < h → j * w + i < w * h
+place-fits w h i j x y = omega (arith, row-fits w j h y, mul-comm w h)
 
 -- a product is 0 exactly where a factor is
 pub zero-factor : (a b : ℕ) → (eqb a 0 || eqb b 0) ≡ eqb (a * b) 0

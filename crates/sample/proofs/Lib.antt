@@ -1,2 +1,4 @@
 pub mod Readings
+pub mod Grays
 pub mod Leftovers
+pub mod Between

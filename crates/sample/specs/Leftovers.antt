@@ -4,17 +4,16 @@ use Prim.Native.Nat.{ℕ}
 use lib.IntN.{ℤ}
 use Rattle.spec.specs.Recipe.{Recipe}
 use Rattle.spec.specs.Picture.{Picture}
-use Rattle.spec.specs.Gray.{asGray, placeWeight, reading}
-use Rattle.spec.specs.Refusals.{first, answer, readingChecks}
+use Rattle.spec.specs.Gray.{placeWeight}
 use Rattle.spec.specs.Ranges.{WithinHalf}
 use Rattle.sample.specs.declared.Sample.the-variants as sample
 use Rattle.sample.specs.declared.Sampled.{Sampled}
 use Rattle.sample.specs.declared.Sampled.the-variants as sampled
-use Rattle.sample.specs.Sampled.{sampledTold}
+use Rattle.sample.specs.Sampled.{GrayRead}
 
 -- Whatever the contract admits as the answer where the grey is chosen and no check applies is a grey and such a leftover. It is not empty:
 -- spec/proofs/Uneven.antt computes a place to which no check applies (`answers`), and a reading with a leftover of -2 (`readings`).
 abbrev pub ReadingFits : Type 0
 ReadingFits =
-    (r : Recipe) (p : Picture) (i j : ℕ) (x : Sampled) → sampledTold x ≡ answer (readingChecks r p i j) (reading asGray r p i j)
-    → first (readingChecks r p i j) ≡ 0 → (g : ℕ) × (l : ℤ) × (x ≡ sampled.Of (sample.Gray g l)) × WithinHalf (placeWeight r p i j) l
+    (r : Recipe) (p : Picture) (i j : ℕ) (x : Sampled) → GrayRead r p i j x
+    → (g : ℕ) × (l : ℤ) × (x ≡ sampled.Of (sample.Gray g l)) × WithinHalf (placeWeight r p i j) l

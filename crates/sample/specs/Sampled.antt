@@ -1,6 +1,10 @@
 -- What each case of a choice and of a reading stands for, and of the answer: the reading, or the number of a refusal.
-use Rattle.spec.specs.Gray.{Reading, grayReading, sumReading, quotientReading, Choice, asGray, asSum, asQuotient}
-use Rattle.spec.specs.Refusals.{Answer, accepted, refused}
+use mathlib.Core.Path.{_≡_}
+use Prim.Native.Nat.{ℕ}
+use Rattle.spec.specs.Recipe.{Recipe}
+use Rattle.spec.specs.Picture.{Picture}
+use Rattle.spec.specs.Gray.{Reading, grayReading, sumReading, quotientReading, Choice, asGray, asSum, asQuotient, reading}
+use Rattle.spec.specs.Refusals.{Answer, accepted, refused, first, answer, readingChecks}
 use Rattle.sample.specs.declared.Quantity.{Quantity}
 use Rattle.sample.specs.declared.Quantity.the-variants as quantity
 use Rattle.sample.specs.declared.Sample.{Sample}
@@ -23,3 +27,7 @@ sampleTold (sample.Mean q) = quotientReading q
 abbrev pub sampledTold : Sampled → Answer Reading
 sampledTold (sampled.Of s) = accepted (sampleTold s)
 sampledTold (sampled.Refused n) = refused n
+
+-- an answer that the contract admits where the grey is chosen and no check applies
+abbrev pub GrayRead : Recipe → Picture → ℕ → ℕ → Sampled → Type 0
+GrayRead r p i j x = (sampledTold x ≡ answer (readingChecks r p i j) (reading asGray r p i j)) × (first (readingChecks r p i j) ≡ 0)

@@ -8,7 +8,7 @@ use lib.Ieee
 use lib.Ieee.{binary64}
 use lib.IntN.{pos, negsuc}
 use lib.ListN.{replicate, take}
-use Rattle.spec.specs.Words.{sum, tab, part, total, product, somewhere}
+use Rattle.spec.specs.Words.{sum, tab, part, total, product, somewhere, least, greatest}
 use Rattle.spec.specs.Recipe.{Recipe, box, convolve, kernel, boxOrder, order, weight, gain}
 use Rattle.spec.specs.Picture.{Picture, picture, pixel, pixelBack, fullWidth, fullHeight, fullSides, exact, fullRow, full}
 use Rattle.spec.specs.Stream.{State, stateWith, boxCells, cascadeCells, streamCells}
@@ -20,7 +20,7 @@ use Rattle.spec.specs.Job
 use Rattle.spec.specs.Program
 use Rattle.spec.specs.Refusals
 
--- the recipe, one to take a difference with, the picture, another of its sides, and the bytes of the job
+-- the recipe, one to take a difference with, the picture, that with two pixels raised, and the bytes of the job
 abbrev uneven : Recipe
 uneven = recipeOf (3 ∷ 2 ∷ []) (2 ∷ [])
 
@@ -65,6 +65,14 @@ blurred = refl
 pub blurred-leftovers : Gray.places scored (Gray.sameLeftover uneven scored) ≡ negsuc 0 ∷ pos 2 ∷ pos 1 ∷ negsuc 1 ∷ pos 3 ∷ pos 3 ∷ []
 unfolding sum tab total product box convolve kernel boxOrder order weight gain pixel pixelBack exact flatten Gray.gray Gray.leftover Gray.places Gray.sameColumn Gray.sameRow Gray.sameSum Gray.plain Gray.insideWeight Gray.placeWeight Gray.sameLeftover
 blurred-leftovers = refl
+
+-- the greys before the two pixels are raised; the least and the greatest pixel, and those of a row without black
+pub between :
+    Gray.places wall (Gray.sameGray uneven wall) ∷ (least (wall .pixels) ∷ greatest (wall .pixels) ∷ [])
+    ∷ (least (71 ∷ 10 ∷ 20 ∷ []) ∷ greatest (20 ∷ 91 ∷ 40 ∷ []) ∷ []) ∷ []
+    ≡ (50 ∷ 36 ∷ 26 ∷ 38 ∷ 35 ∷ 35 ∷ []) ∷ (0 ∷ 90 ∷ []) ∷ (10 ∷ 91 ∷ []) ∷ []
+unfolding sum tab total product least greatest box convolve kernel boxOrder order weight gain pixel pixelBack exact flatten Gray.gray Gray.places Gray.sameColumn Gray.sameRow Gray.sameSum Gray.plain Gray.insideWeight Gray.placeWeight Gray.sameGray
+between = refl
 
 pub rounded : Gray.grays 12 (150 ∷ 180 ∷ 130 ∷ []) ≡ 13 ∷ 15 ∷ 11 ∷ []
 unfolding Gray.gray Gray.grays
@@ -146,8 +154,9 @@ abbrev wide : List ℕ → ℕ → List ℕ
 wide ns w = Job.jobBytes (recipeOf ns (64 ∷ [])) (picture w 1 (replicate w 0))
 
 pub answers :
-    -- a picture with a pixel less, and sides that are refused
+    -- both pictures, one with a pixel less, and sides that are refused
     Refusals.first (Refusals.pictureChecks uneven wall)
+    ∷ Refusals.first (Refusals.pictureChecks uneven scored)
     ∷ Refusals.first (Refusals.pictureChecks uneven (picture 3 2 (1 ∷ 2 ∷ 3 ∷ 4 ∷ 5 ∷ [])))
     ∷ Refusals.first (Refusals.pictureChecks uneven (picture 1025 0 []))
     ∷ Refusals.first (Refusals.pictureChecks uneven (picture 2 0 []))
@@ -229,7 +238,7 @@ pub answers :
     -- too many cells, and a byte more: the length of the job is asked first
     ∷ Refusals.first (Refusals.programChecks (wide (2 ∷ []) 127 ++ (0 ∷ [])))
     ∷ []
-    ≡ 0 ∷ 6 ∷ 5 ∷ 5 ∷ 5
+    ≡ 0 ∷ 0 ∷ 6 ∷ 5 ∷ 5 ∷ 5
     ∷ 0 ∷ 8
     ∷ 0 ∷ 6 ∷ 7 ∷ 8 ∷ 10 ∷ 9
     ∷ 0 ∷ 7 ∷ 8 ∷ 10 ∷ 10

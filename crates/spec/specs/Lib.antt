@@ -9,5 +9,6 @@ pub mod Job
 pub mod Refusals
 pub mod Ranges
 pub mod Inside
+pub mod Between
 pub mod Program
 pub mod Cases

@@ -1,7 +1,7 @@
 -- The general words that the definitions of document 01 are written in.
 use mathlib.Core.Bool.{Bool, true, false, _&&_, _||_, cond}
 use mathlib.Core.List.{List, [], _∷_}
-use Prim.Native.Nat.{ℕ, zero, suc, _+_, _*_}
+use Prim.Native.Nat.{ℕ, zero, suc, _+_, _*_, min, max}
 use lib.Dec.{eqb}
 use lib.ListN.{getD}
 
@@ -46,3 +46,13 @@ keep p (x ∷ xs) = cond (p x) (x ∷ keep p xs) (keep p xs)
 -- how often a number occurs in a list
 unfoldable pub occurs : ℕ → List ℕ → ℕ
 occurs n xs = total (λ x. cond (eqb x n) 1 0) xs
+
+-- the least and the greatest entry of a list
+unfoldable pub least : List ℕ → ℕ
+least [] = 0
+least (x ∷ []) = x
+least (x ∷ y ∷ ys) = min x (least (y ∷ ys))
+
+unfoldable pub greatest : List ℕ → ℕ
+greatest [] = 0
+greatest (x ∷ xs) = max x (greatest xs)
