@@ -1,7 +1,7 @@
 -- Document 02, S-5, "No mark out of nowhere": what is claimed of the greys of the same-size blur, as they are defined. No largest grey is
 -- named. blur/specs/Between.antt and sample/specs/Between.antt claim the same of what calls leave.
--- None of the claims is empty: spec/proofs/Uneven.antt computes an accepted picture and one with two of its pixels raised (`answers`), and
--- their greys with the least and the greatest pixel (`between`).
+-- None of the claims is empty: spec/proofs/Uneven.antt computes that a picture and one with two of its pixels raised are accepted
+-- (`answers`), the greys of both (`between`, `blurred`), and the least and the greatest pixel.
 use mathlib.Core.Path.{_≡_}
 use Prim.Native.Nat.{ℕ, _*_, _≤_, _<_}
 use lib.ListN.{length, getD}
