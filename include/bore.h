@@ -31,7 +31,8 @@
  * that is taken there for a picture of the same sides whose pixels are all 1: what of the weight falls on the
  * picture, from 1 up to the whole weight. Greys, leftovers and quotients of a place (bore_blur,
  * bore_sample_gray, bore_sample_mean) are by its inside weight, so that a blur is as bright at the rim as
- * elsewhere. bore_round and bore_difference are by the weight.
+ * elsewhere: no grey of a place is below the least or above the greatest pixel, and raising any pixels lowers
+ * none. bore_round and bore_difference are by the weight.
  *
  * Document 01, and of document 02 the fading ladder, the leftovers and the inside weight, stand as definitions
  * in crates/spec/specs. */

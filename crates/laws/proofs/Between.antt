@@ -8,16 +8,13 @@ use Prim.Native.Nat.{ℕ, zero, suc, _+_, _*_, _/_, _≤_, _<_}
 use native.Mathlib.Nat.{le-refl, le-of-eq, le-of-suc-le-suc, mul-pos, div-zero, le-div-iff-mul-le, div-mul-le-self}
 use native.Mathlib.Decide.{decLe}
 use native.Mathlib.Omega.{arith}
-use lib.ListN.{length, getD}
+use lib.ListN.{length, getD, replicate, getD-replicate}
 use Rattle.spec.specs.Words.{least, greatest}
 use Rattle.spec.specs.Picture.{Picture}
 use Rattle.spec.specs.Gray.{gray, sameColumn, sameRow, sameSum, plain, insideWeight, placeWeight, sameGray}
 use Rattle.spec.specs.Between.{EndsArePixels, GraysBetween, SameGraysBetween, Raised, GraysRise}
-use Rattle.laws.proofs.Numbers.{place-fits}
-use Rattle.laws.proofs.Kernels.{at}
-use Rattle.laws.proofs.Exact.{pixel-inside}
 use Rattle.laws.proofs.Refusals.{is-accepted-picture}
-use Rattle.laws.proofs.Inside.{exact-rises, raised-under, plain-pixel, inside-fits, plain-kept}
+use Rattle.laws.proofs.Inside.{exact-rises, raised-under, raised-lists, inside-fits, plain-kept}
 
 -- ---- the least and the greatest entry of a list
 
@@ -89,51 +86,31 @@ grays-rise r p q u i j =
 
 -- ---- greys between the least and the greatest pixel
 
-module _ (p : Picture) (size : length (p .pixels) ≡ p .width * p .height) where
-  abbrev lo : ℕ
-  lo = least (p .pixels)
+module _ (p : Picture) (e : length (p .pixels) ≡ p .width * p .height) where
+  abbrev size : ℕ
+  size = p .width * p .height
 
-  abbrev hi : ℕ
-  hi = greatest (p .pixels)
-
-  -- a pixel at its place in the list, beside those of the two plain pictures
-  raised-from : Raised (plain (p .width) (p .height) lo) p
-  unfolding plain at
+  raised-from : Raised (plain (p .width) (p .height) (least (p .pixels))) p
+  unfolding plain
   raised-from =
-      record {
-        width = refl;
-        height = refl;
-        pixels = λ i j x y.
-            omega (
-              arith,
-              plain-pixel (p .width) (p .height) lo i j x y,
-              least-below (p .pixels) (j * p .width + i) (omega (arith, place-fits (p .width) (p .height) i j x y)),
-              pixel-inside p i j x y,
-            );
-      }
+      raised-lists (p .width) (p .height) (replicate size (least (p .pixels))) (p .pixels)
+      (λ k h. omega (arith, getD-replicate size k (least (p .pixels)) 0 h, least-below (p .pixels) k (omega arith)))
 
-  raised-to : Raised p (plain (p .width) (p .height) hi)
-  unfolding plain at
+  raised-to : Raised p (plain (p .width) (p .height) (greatest (p .pixels)))
+  unfolding plain
   raised-to =
-      record {
-        width = refl;
-        height = refl;
-        pixels = λ i j x y.
-            omega (
-              arith,
-              plain-pixel (p .width) (p .height) hi i j x y,
-              greatest-above (p .pixels) (j * p .width + i) (omega (arith, place-fits (p .width) (p .height) i j x y)),
-              pixel-inside p i j x y,
-            );
-      }
+      raised-lists (p .width) (p .height) (p .pixels) (replicate size (greatest (p .pixels)))
+      (λ k h. omega (arith, getD-replicate size k (greatest (p .pixels)) 0 h, greatest-above (p .pixels) k (omega arith)))
 
 pub grays-between : GraysBetween
 unfolding placeWeight plain
-grays-between r p size i j some =
+grays-between r p e i j some =
     let w = p .width in
-    let h = p .height in (
-      omega (arith, plain-kept r w h (least (p .pixels)) i j some .0, grays-rise r (plain w h (least (p .pixels))) p (raised-from p size) i j),
-      omega (arith, plain-kept r w h (greatest (p .pixels)) i j some .0, grays-rise r p (plain w h (greatest (p .pixels))) (raised-to p size) i j),
+    let h = p .height in
+    let lo = least (p .pixels) in
+    let hi = greatest (p .pixels) in (
+      omega (arith, plain-kept r w h lo i j some .0, grays-rise r (plain w h lo) p (raised-from p e) i j),
+      omega (arith, plain-kept r w h hi i j some .0, grays-rise r p (plain w h hi) (raised-to p e) i j),
     )
 
 pub same-grays-between : SameGraysBetween

@@ -13,7 +13,7 @@ use lib.ListN.{getD, replicate, getD-replicate}
 use borrow.Author.Tests.{ltb-true, lt-ltb}
 use Rattle.spec.specs.Words.{sum, total, product}
 use Rattle.spec.specs.Recipe.{Recipe, kernel, boxOrder, order, weight, gain}
-use Rattle.spec.specs.Picture.{Picture, Within, pixel, pixelBack, exact}
+use Rattle.spec.specs.Picture.{Picture, picture, Within, pixel, pixelBack, exact}
 use Rattle.spec.specs.Gray.{gray, leftover, sameColumn, sameRow, sameSum, plain, insideWeight, placeWeight, sameGray, sameLeftover, expressed, reading}
 use Rattle.spec.specs.Refusals.{alone}
 use Rattle.spec.specs.Inside.{InsideProduct, InsideFits, SumsInside, AwayFromRim, PlainKept}
@@ -244,21 +244,24 @@ raised-under p q u i j =
       | no x ↦ le-of-eq (pixel-right p i j (omega arith) ∙ sym (pixel-right q i j (omega (arith, u .width))))
     ]
 
--- a plain picture at a picture place
-pub plain-pixel : (w h c i j : ℕ) → i < w → j < h → pixel (plain w h c) i j ≡ c
-unfolding plain at
-plain-pixel w h c i j x y = pixel-inside (plain w h c) i j x y ∙ getD-replicate (w * h) (j * w + i) c 0 (place-fits w h i j x y)
+-- by their lists of pixels
+pub raised-lists : (w h : ℕ) (xs ys : List ℕ) → ((k : ℕ) → k < w * h → getD xs k 0 ≤ getD ys k 0) → Raised (picture w h xs) (picture w h ys)
+unfolding at
+raised-lists w h xs ys e =
+    record {
+      width = refl;
+      height = refl;
+      pixels = λ i j x y.
+          omega (arith, pixel-inside (picture w h xs) i j x y, pixel-inside (picture w h ys) i j x y, e (j * w + i) (place-fits w h i j x y));
+    }
 
 -- a picture of pixels of at most so much lies under the plain one
 under-plain : (most : ℕ) (p : Picture) → Within most p → Under p (plain (p .width) (p .height) most)
-unfolding plain at
+unfolding plain
 under-plain most p small =
+    let size = p .width * p .height in
     raised-under p (plain (p .width) (p .height) most)
-    (record {
-      width = refl;
-      height = refl;
-      pixels = λ i j x y. omega (arith, pixel-inside p i j x y, small (j * p .width + i), plain-pixel (p .width) (p .height) most i j x y);
-    })
+    (raised-lists (p .width) (p .height) (p .pixels) (replicate size most) (λ k h. omega (arith, small k, getD-replicate size k most 0 h)))
 
 pub sums-inside : SumsInside
 unfolding placeWeight sameSum

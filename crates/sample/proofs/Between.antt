@@ -3,7 +3,7 @@
 use native.Mathlib.Omega.{arith}
 use Rattle.laws.proofs.Between.{same-grays-between, grays-rise}
 use Rattle.sample.specs.Between.{ReadingBetween, ReadingRises}
-use Rattle.sample.proofs.Grays.{AsDefined, as-defined}
+use Rattle.sample.proofs.Grays.{as-defined}
 
 pub reading-between : ReadingBetween
 reading-between r p i j x read =

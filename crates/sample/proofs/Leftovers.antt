@@ -5,7 +5,7 @@ use Rattle.spec.specs.Gray.{placeWeight}
 use Rattle.spec.specs.Ranges.{WithinHalf}
 use Rattle.laws.proofs.Ranges.{same-leftovers-fit}
 use Rattle.sample.specs.Leftovers.{ReadingFits}
-use Rattle.sample.proofs.Grays.{AsDefined, as-defined}
+use Rattle.sample.proofs.Grays.{as-defined}
 
 pub reading-fits : ReadingFits
 reading-fits r p i j x read =

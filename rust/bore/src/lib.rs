@@ -12,7 +12,9 @@
 //! The inside weight at a place of a picture is the exact sum that the blur takes
 //! there for a picture of the same sides whose pixels are all 1. Greys, leftovers
 //! and quotients of a place (`blur`, `sample`, `sample_gray`, `sample_mean`) are
-//! by its inside weight; `round` and `difference` are by the filter's weight.
+//! by its inside weight: no grey of a place is below the least or above the
+//! greatest pixel, and raising any pixels lowers none. `round` and `difference`
+//! are by the filter's weight.
 
 #![deny(unsafe_code)]
 
