@@ -13,7 +13,7 @@ use Rattle.spec.specs.Gray.{places, sameGray, sameLeftover}
 use Rattle.spec.specs.Refusals.{first, fullSize, pictureChecks, sameSizeChecks}
 use Rattle.laws.proofs.Refusals.{none-both, size-numbered, picture-numbered, is-accepted-picture}
 use Rattle.laws.proofs.Between.{same-grays-between, grays-rise}
-use Rattle.blur.specs.Blurred.{Call}
+use Rattle.blur.specs.Blurred.{BlurCall}
 use Rattle.blur.specs.Between.{BlurCalls, BlurredBetween, BlurredRise}
 use Rattle.blur.proofs.Answering.{blur-none, blur-all, left-size, left-at}
 
@@ -40,7 +40,7 @@ blur-calls r p e =
       told = blur-all r p out left cells none _ _ cells refl refl (sym (take-append-drop (2 * fullSize r p) cells)) refl;
     }
 
-module _ (r : Recipe) (p : Picture) (c : Call r p) where
+module _ (r : Recipe) (p : Picture) (c : BlurCall r p) where
   accepted : first (pictureChecks r p) ≡ 0
   unfolding sameSizeChecks
   accepted = none-both _ _ (picture-numbered r p) (c .none) .0

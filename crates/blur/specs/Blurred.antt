@@ -20,7 +20,7 @@ pub record Blurred (r : Recipe) (p : Picture) (out : List ℕ) (left : List ℤ)
   pub leftovers : newLeft ≡ lent (checks r p out left cells) (places p (sameLeftover r p)) left
 
 -- a call to which no check applies: what it is lent, and what it answers and leaves, anything that the contract admits
-pub record Call (r : Recipe) (p : Picture) : Type 0 where
+pub record BlurCall (r : Recipe) (p : Picture) : Type 0 where
   pub out : List ℕ
   pub left : List ℤ
   pub cells : List ℕ

@@ -10,11 +10,11 @@ use Rattle.spec.specs.Recipe.{Recipe}
 use Rattle.spec.specs.Picture.{Picture}
 use Rattle.spec.specs.Gray.{placeWeight}
 use Rattle.spec.specs.Ranges.{WithinHalf}
-use Rattle.blur.specs.Blurred.{Call}
+use Rattle.blur.specs.Blurred.{BlurCall}
 
 -- Of a call to which no check applies, each by the weight at its picture place.
 abbrev pub BlurredFit : Type 0
 BlurredFit =
-    (r : Recipe) (p : Picture) (c : Call r p)
+    (r : Recipe) (p : Picture) (c : BlurCall r p)
     → (c .number ≡ 0) × (length (c .newLeft) ≡ p .width * p .height)
     × ((i j : ℕ) → i < p .width → j < p .height → WithinHalf (placeWeight r p i j) (getD (c .newLeft) (j * p .width + i) (pos 0)))
