@@ -2,6 +2,8 @@
 // taken in any order, and a box of width n is the running total less the running total n places earlier:
 // so first come the running totals, one for each wide box, then the boxes of width 2, and then the
 // differences. Without a wide box the row begins in 16 bits.
+#![tactic(auto)]
+
 ghost use Rattle.std.specs.Prelude.{◌≡◌, ◌-◌, ◌%◌, ◌^◌, min, length, replicate, if◌then◌else◌};
 ghost use Rattle.spec.specs.Words.{sum, tab, somewhere};
 ghost use Rattle.spec.specs.Recipe.{widths};

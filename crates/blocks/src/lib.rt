@@ -1,6 +1,8 @@
 // The blocks by which recipes cross to C and Rust, taken apart and put together. A list is a block of 49
 // bytes: its count and its 48 widths. A recipe is a block of 98: the row list and then the column list.
 // Every block stands for a list or a recipe; the calls refuse what document 01 refuses.
+#![tactic(auto)]
+
 ghost use Rattle.std.specs.Prelude.{◌≡◌, ℕ, ◌+◌, ◌≤◌, ◌<◌, length, get_or};
 ghost use Rattle.blocks.specs.Given.{list_at, given, block_of};
 

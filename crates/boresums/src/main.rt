@@ -1,5 +1,6 @@
 // Reads one job from standard input and prints its exact sums, or its refusal, on standard output. Where
 // either cannot be done, a line on standard error says so and why.
+#![tactic(auto)]
 
 fn main() {
     let mut bytes = [0u8; 65537];

@@ -1,6 +1,8 @@
 // Prints jobs as boresums does, each under its name: document 01's example, each refusal that a job can
 // meet, damaged files, a text of more than one filling, and the largest job, of whose text the lines, the
 // bytes and the sum of all bytes are told.
+#![tactic(auto)]
+
 ghost use Rattle.std.specs.Prelude.{◌≤◌};
 
 use libc::STDOUT_FILENO;

@@ -1,4 +1,6 @@
 // What boresums prints for a job, on standard output.
+#![tactic(auto)]
+
 ghost use Rattle.std.specs.Prelude.{◌≡◌, ◌≤◌, eqb, length};
 ghost use Rattle.spec.specs.Program.{printed};
 

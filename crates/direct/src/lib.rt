@@ -1,6 +1,8 @@
 // Document 01's third method, direct: the coefficients of both lists are filled in, then every exact
 // sum is formed as it is defined; or only the one that the same-size blur takes at a picture place, with
 // document 02's inside weight there.
+#![tactic(auto)]
+
 mod points;
 mod sums;
 

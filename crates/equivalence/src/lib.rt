@@ -1,5 +1,7 @@
 // Document 01's comparing call: whether two recipes are the same, by how often each width occurs in
 // their lists.
+#![tactic(auto)]
+
 ghost use Rattle.std.specs.Prelude.{◌≡◌, true, ◌≤◌, ◌<◌, replicate};
 ghost use Rattle.spec.specs.Words.{everywhere};
 ghost use Rattle.spec.specs.Recipe.{recipe, widths};

@@ -1,5 +1,7 @@
 // Document 01's recipe: its checks 1 to 4, its weight and reaches, its coefficients, the grown sides, the
 // scale card, and the widths of a list one by one; document 02's inside weights along one axis.
+#![tactic(auto)]
+
 mod card;
 mod checks;
 mod coefficients;

@@ -1,6 +1,8 @@
 // The calls on a recipe for C and Rust: checks, coefficients, sizes, scale card, and whether two recipes
 // are the same. A recipe is a block of 98 bytes, a list one of 49 (crate `blocks`). Each call returns
 // document 01's number, 0 where it is accepted; on a refusal nothing is written.
+#![tactic(auto)]
+
 ghost use Rattle.std.specs.Prelude.{◌≡◌, cond};
 ghost use Rattle.spec.specs.Recipe.{widths, recipe, order, gain};
 ghost use Rattle.spec.specs.Picture.{full_width_of, full_height_of};

@@ -1,4 +1,6 @@
 // Document 01's greys: rounding, with document 02's leftovers, of one sum and of a row of sums.
+#![tactic(auto)]
+
 mod rounding;
 mod wrapping;
 

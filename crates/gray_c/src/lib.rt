@@ -1,5 +1,7 @@
 // Greys, differences and readings for C and Rust. A recipe is a block of 98 bytes (crate `blocks`). Each
 // call returns document 01's number, 0 where it is accepted; on a refusal nothing is written.
+#![tactic(auto)]
+
 ghost use Rattle.std.specs.Prelude.{◌≡◌};
 ghost use Rattle.spec.specs.Recipe.{recipe};
 ghost use Rattle.spec.specs.Picture.{picture};

@@ -1,6 +1,8 @@
 // The calls on job files for C and Rust. A recipe is a block of 98 bytes (crate `blocks`); a job that was
 // read is such a block and one of three words: width, height and the offset of the pixels. Each call
 // returns document 01's number, 0 where it is accepted.
+#![tactic(auto)]
+
 ghost use Rattle.std.specs.Prelude.{◌≡◌};
 ghost use Rattle.spec.specs.Recipe.{recipe};
 ghost use Rattle.spec.specs.Picture.{picture};

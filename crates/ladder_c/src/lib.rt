@@ -1,5 +1,7 @@
 // The fading ladder for C and Rust: one call for each choice of axes. Each returns the number of
 // document 02 or 01, 0 where it is accepted. A refusal writes nothing.
+#![tactic(auto)]
+
 ghost use Rattle.spec.specs.Picture.{picture};
 ghost use Rattle.spec.specs.Ladder.{rows_only, both_axes};
 ghost use Rattle.passes.specs.Climbed.{Climbed};

@@ -2,6 +2,8 @@
 // running sum. The grown picture is one sequence, stored row by row: a row width adds up neighbours,
 // through the black places at the end of each row, and a column width adds up places that are a row
 // apart.
+#![tactic(auto)]
+
 ghost use Rattle.std.specs.Prelude.{◌≡◌, List, ℕ, length};
 ghost use Rattle.spec.specs.Recipe.{recipe};
 ghost use Rattle.spec.specs.Picture.{picture, full_width_of, full_sides, full};

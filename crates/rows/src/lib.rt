@@ -1,5 +1,7 @@
 // The one pass over a whole picture: the theorem about a whole list of calls, a call that yields the next
 // grown row, and one that passes over grown rows.
+#![tactic(auto)]
+
 ghost use Rattle.std.specs.Prelude.{◌≡◌, true, [], ◌∷◌, ◌*◌, leb};
 ghost use Rattle.spec.specs.Recipe.{recipe};
 ghost use Rattle.spec.specs.Picture.{full_height_of};

@@ -1,5 +1,7 @@
 // Document 01's reading at one picture place, without work cells; document 02's leftover beside the grey,
 // and its inside weight.
+#![tactic(auto)]
+
 ghost use Rattle.std.specs.Prelude.{◌≡◌, ◌*◌, ◌^◌, ◌≤◌, ◌<◌};
 ghost use Rattle.spec.specs.Recipe.{recipe};
 ghost use Rattle.spec.specs.Picture.{picture, largest_gray};

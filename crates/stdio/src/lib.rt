@@ -1,5 +1,7 @@
 // Standard input read to its end and standard output written whole. A call that was interrupted or would
 // have to wait, and a write that took nothing, is made again, a bounded number of times.
+#![tactic(auto)]
+
 ghost use Rattle.std.specs.Prelude.{◌≤◌, length};
 
 use libc::{EAGAIN, EINTR, STDIN_FILENO, STDOUT_FILENO};

@@ -1,5 +1,7 @@
 // The one pass of document 01: the work cells that it needs, a start, a row call and a drain, on a
 // running state by value and lent cells.
+#![tactic(auto)]
+
 mod calls;
 mod cascades;
 mod columns;

@@ -4,6 +4,8 @@
 // document 01's number, 0 where it is accepted. On a refusal nothing else is written, but for the fields
 // that stand beside the number: the state of a refused start, of zeros, and the count of a refused row
 // call or drain.
+#![tactic(auto)]
+
 ghost use Rattle.std.specs.Prelude.{◌≡◌};
 ghost use Rattle.spec.specs.Recipe.{recipe};
 ghost use Rattle.spec.specs.Picture.{picture};

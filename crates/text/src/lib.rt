@@ -1,4 +1,6 @@
 // The text that the program prints: numbers in decimal on one line, and the line of a refusal.
+#![tactic(auto)]
+
 ghost use Rattle.std.specs.Prelude.{◌≡◌, ◌∷◌, ◌++◌, ◌+◌, ◌*◌, ◌≤◌, ◌<◌, length, take, drop};
 ghost use Rattle.spec.specs.Program.{decimal, line as line_of, refusal_printed};
 ghost use Rattle.text.specs.Printed.{Printed, line_told};
