@@ -1,0 +1,18 @@
+-- `blocks::list_at` meets its contract: the widths are written from the left over zeros.
+-- Assumes nothing.
+use mathlib.Core.Path.{◌≡◌, refl}
+use Prim.Native.Nat.{◌+◌, ◌-◌, ◌≤◌}
+use native.Mathlib.Omega.{arith}
+use borrow.Author.Rules.{rules}
+use lib.ListN.{length, get_or, replicate, length-set}
+use Rattle.spec.specs.Words.{part}
+use Rattle.laws.proofs.Slices.{Rightwards, rightwards_none, rightwards_more, rightwards_all}
+use Rattle.blocks.specs.Given.{list_at}
+use Rattle.blocks.proofs.list_at.Given as goal
+
+abbrev pub invariant-loop-k : goal.invariant-loop-k
+invariant-loop-k l =
+    (l.k ≤ 48) × (length l.widths ≡ 48) × Rightwards (λ j. get_or l.block (l.from + j) 0) (replicate 48 0) l.k l.widths
+
+abbrev pub decreases-loop-k : goal.decreases-loop-k
+decreases-loop-k l = 48 - l.k

@@ -1,0 +1,18 @@
+-- `filter::coefficients::difference` meets its contract: entries are written from the right, so that what is read still stands.
+-- Assumes nothing.
+use mathlib.Core.Path.{◌≡◌, sym, ap₂, ◌∙◌}
+use Prim.Native.Nat.{◌+◌, ◌-◌, ◌≤◌}
+use native.Mathlib.Omega.{arith}
+use borrow.Author.Rules.{rules}
+use Rattle.laws.proofs.Sequences.{behind, behind_within, behind_before}
+use Rattle.laws.proofs.Kernels.{at}
+use Rattle.laws.proofs.Slices.{Leftwards, leftwards_none, leftwards_more, leftwards_all, mixed_front}
+use lib.ListN.{length, get_or, length-set}
+use Rattle.filter.proofs.coefficients.difference.Given as goal
+
+abbrev pub invariant-loop-k : goal.invariant-loop-k
+invariant-loop-k l =
+    (length l.out ≡ length l.initial.out) × (l.k ≤ length l.initial.out) × Leftwards (λ j. at l.initial.out j - behind (at l.initial.out) l.n j) l.initial.out l.k l.out
+
+abbrev pub decreases-loop-k : goal.decreases-loop-k
+decreases-loop-k l = l.k
