@@ -12,7 +12,7 @@ use lib.Seq.{take_at, drop_at, drop-drop, drop-append-add, get_or-drop}
 use borrow.Author.Tests.{le-ltb, eqb-true, not-false}
 use Rattle.spec.specs.Words.{tab, part}
 use Rattle.spec.specs.Recipe.{Recipe, recipe}
-use Rattle.spec.specs.Picture.{Picture, picture}
+use Rattle.spec.specs.Picture.{Picture}
 use Rattle.spec.specs.Job.{mark, version, low16, read16, job_bytes, job_length, job_recipe, job_width, job_height, job_offset, job_picture}
 use Rattle.spec.specs.Refusals.{first, either, lent, bad_head, cut_short, other_total, other_pixels, too_long, size_checks, picture_checks, job_checks, write_checks}
 use Rattle.laws.proofs.Lists.{length_part, part_within}

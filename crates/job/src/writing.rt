@@ -8,7 +8,6 @@ ghost use Rattle.job.specs.Answers.{length_told};
 ghost use Rattle.job.specs.Writing.{JobWritten};
 ghost use Rattle.job.specs.Private.{Appended};
 
-use bytes::copy;
 use filter::{FullSize, full_size};
 use spec::{Cascade, Filter};
 
@@ -44,7 +43,7 @@ fn append(from: &[u8], out: &mut [u8], at: usize) -> usize
     ensures { Appended from.now at out.old result out.new }
 {
     let end = at + from.len();
-    copy(from, &mut out[at..end]);
+    out[at..end].copy_from_slice(from);
     end
 }
 

@@ -6,7 +6,6 @@ ghost use Rattle.report.specs.Filling.{row_lines, next_lines, heading, job_lines
 ghost use Rattle.report.specs.Private.{Put};
 
 use crate::opening::{Opened, head};
-use bytes::copy;
 use filter::{FullSize, full_size};
 use rows::advance;
 use stream::State;
@@ -111,7 +110,7 @@ fn begin(opened: Opened, text: &mut [u8]) -> usize
     let mut first = [0u8; 64];
     let count = head(opened, &mut first);
     let z: usize = 0;
-    copy(&first[z..count], &mut text[z..count]);
+    text[z..count].copy_from_slice(&first[z..count]);
     count
 }
 

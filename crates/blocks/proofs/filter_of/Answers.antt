@@ -1,6 +1,5 @@
 -- `blocks::filter_of` meets its contract: the two lists, by that of `list_at`.
 -- Assumes nothing.
-use borrow.Author.Rules.{rules}
 use Rattle.blocks.specs.Given.{given}
 use Rattle.blocks.proofs.filter_of.Goals as goal
 

@@ -1,11 +1,10 @@
 -- What `search` does not find of `list_at`.
-use mathlib.Core.Path.{◌≡◌, refl}
-use Prim.Native.Nat.{◌+◌, ◌-◌, ◌≤◌}
+use mathlib.Core.Path.{refl}
 use native.Mathlib.Omega.{arith}
 use borrow.Author.Rules.{rules}
-use lib.ListN.{length, get_or, replicate, length-set}
+use lib.ListN.{get_or, replicate, length-set}
 use Rattle.spec.specs.Words.{part}
-use Rattle.laws.proofs.Slices.{Rightwards, rightwards_none, rightwards_more, rightwards_all}
+use Rattle.laws.proofs.Slices.{rightwards_none, rightwards_more, rightwards_all}
 use Rattle.blocks.specs.Given.{list_at}
 use Rattle.blocks.proofs.list_at.Goals as goal
 

@@ -1,13 +1,9 @@
 -- `blocks::list_at` meets its contract: the widths are written from the left over zeros.
 -- Assumes nothing.
-use mathlib.Core.Path.{◌≡◌, refl}
+use mathlib.Core.Path.{◌≡◌}
 use Prim.Native.Nat.{◌+◌, ◌-◌, ◌≤◌}
-use native.Mathlib.Omega.{arith}
-use borrow.Author.Rules.{rules}
-use lib.ListN.{length, get_or, replicate, length-set}
-use Rattle.spec.specs.Words.{part}
-use Rattle.laws.proofs.Slices.{Rightwards, rightwards_none, rightwards_more, rightwards_all}
-use Rattle.blocks.specs.Given.{list_at}
+use lib.ListN.{length, get_or, replicate}
+use Rattle.laws.proofs.Slices.{Rightwards}
 use Rattle.blocks.proofs.list_at.Given as goal
 
 abbrev pub invariant-loop-k : goal.invariant-loop-k

@@ -1,13 +1,8 @@
 -- `blocks::put_list` meets its contract: the count, and the widths one after the other.
 -- Assumes nothing.
-use mathlib.Core.Path.{◌≡◌, refl, ◌∙◌}
+use mathlib.Core.Path.{◌≡◌}
 use Prim.Native.Nat.{ℕ, ◌+◌, ◌-◌, ◌≤◌, ◌<◌}
-use native.Mathlib.Omega.{arith}
-use borrow.Author.Rules.{rules}
-use borrow.Author.Count.{below_more}
-use lib.ListN.{length, get_or, set, length-set}
-use lib.Seq.{get_or-set_same, get_or-set_other}
-use Rattle.blocks.proofs.Standing.{list_stands}
+use lib.ListN.{length, get_or}
 use Rattle.blocks.proofs.put_list.Given as goal
 
 -- the widths that are written, and what stands before them

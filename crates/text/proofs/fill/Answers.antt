@@ -1,11 +1,10 @@
 -- What `search` does not find of `fill`.
 use mathlib.Core.Path.{◌≡◌, ◌∙◌}
-use Prim.Native.Nat.{◌-◌, ◌≤◌, ◌<◌}
+use Prim.Native.Nat.{◌-◌, ◌<◌}
 use native.Mathlib.Omega.{arith}
 use borrow.Author.Rules.{rules}
-use lib.ListN.{length, length-set}
-use mathlib.Core.Logic.{⊎_elim}
-use Rattle.text.proofs.Lines.{Laid, laid_none, laid_more, laid_line}
+use lib.ListN.{length}
+use Rattle.text.proofs.Lines.{laid_none, laid_more, laid_line}
 use Rattle.text.proofs.fill.Lts
 use Rattle.text.proofs.fill.Reads
 use Rattle.text.proofs.fill.Tie
@@ -20,7 +19,7 @@ loop-i-init c =
 pub put-next-requires : goal.put-next-requires
 put-next-requires c =
     let turn = c.loop-i in
-    (c.digit_pairs-pairs.ensures, omega (arith, c.requires, turn.invariant.3.few))
+    record { pairs_value = c.digit_pairs-pairs.ensures; from_in_bounds = omega (arith, c.requires, turn.invariant.3.few) }
 
 pub loop-i-preserved : goal.loop-i-preserved
 loop-i-preserved c =
@@ -34,8 +33,8 @@ loop-i-preserved c =
     )
 
 -- where the line's end goes, and that there is room
-last : (c : Lts.Joined1 Tie.the-claims Reads.Pre Reads.Post goal.the-invariant-loop-i goal.the-decreases-loop-i) →
-    (c.if-next-eq0.new ≡ c.loop-i.next - 1) × (c.loop-i.next < length c.args.out.now)
+last : (c : Lts.Joined1 Tie.the-claims Reads.Pre Reads.Post goal.the-invariant-loop-i goal.the-decreases-loop-i Tie.handed_clauses) →
+    (c.if-next-eq0.last ≡ c.loop-i.next - 1) × (c.loop-i.next < length c.args.out.now)
 last c =
     let turn = c.loop-i in
     (elim c.if-next-eq0.branch [ then-next-eq0 w ↦ omega (arith, w) | else-next-eq0 w ↦ omega (arith, w) ], omega (arith, c.requires, turn.invariant.3.few))

@@ -1,12 +1,9 @@
 -- `text::fill` meets its contract: number by number from the left, then the line's end over the last space.
 -- Assumes nothing.
-use mathlib.Core.Path.{◌≡◌, ◌∙◌}
-use Prim.Native.Nat.{◌-◌, ◌≤◌, ◌<◌}
-use native.Mathlib.Omega.{arith}
-use borrow.Author.Rules.{rules}
-use lib.ListN.{length, length-set}
-use mathlib.Core.Logic.{⊎_elim}
-use Rattle.text.proofs.Lines.{Laid, laid_none, laid_more, laid_line}
+use mathlib.Core.Path.{◌≡◌}
+use Prim.Native.Nat.{◌-◌, ◌≤◌}
+use lib.ListN.{length}
+use Rattle.text.proofs.Lines.{Laid}
 use Rattle.text.proofs.fill.Given as goal
 
 abbrev pub invariant-loop-i : goal.invariant-loop-i

@@ -4,7 +4,6 @@ use mathlib.Core.Path.{◌≡◌, sym, ap, ◌∙◌}
 use mathlib.Core.List.{List, [], ◌++◌}
 use Prim.Native.Nat.{ℕ, ◌+◌, ◌*◌}
 use native.Mathlib.Omega.{arith}
-use borrow.Author.Rules.{rules}
 use lib.ListN.{length, drop}
 use Rattle.spec.specs.Program.{line}
 use Rattle.spec.specs.Refusals.{accepted, refused, first}
@@ -19,6 +18,7 @@ module _ (ns old : List ℕ) where
   printed-not h =
       let e = by_output [] (length old) (21 * length ns + 1) h in
       record { answer = sym (answer_refused _ _ 7 e (λ p. omega arith)); slice = sym (lent_refused _ _ old 7 e (λ p. omega arith)) }
+
   printed-all : length old ≡ 21 * length ns + 1 → (r : ℕ) (new : List ℕ) → r ≡ length (line ns) → new ≡ line ns ++ drop r old
       → Printed ns old (accepted r) new
   unfolding line_checks first

@@ -11,7 +11,7 @@ use Rattle.text.proofs.Lines.{refusal_length, refusal_line_lem}
 use Rattle.text.proofs.refusal_line.Goals as goal
 
 pub put-next-requires : goal.put-next-requires
-put-next-requires c = (c.digit_pairs-pairs.ensures, search rules)
+put-next-requires c = record { pairs_value = c.digit_pairs-pairs.ensures; from_in_bounds = search rules }
 
 pub returns : goal.returns
 returns c =

@@ -1,7 +1,7 @@
 -- What `search` does not find of `spell`.
 use mathlib.Core.Path.{◌≡◌, sym, ap, ◌∙◌}
 use mathlib.Core.List.{◌++◌, append-nil}
-use Prim.Native.Nat.{ℕ, suc, ◌+◌, ◌-◌, ◌*◌, ◌/◌, ◌%◌, ◌≤◌}
+use Prim.Native.Nat.{ℕ, suc, ◌+◌, ◌-◌, ◌*◌, ◌/◌, ◌%◌}
 use native.Mathlib.Numerals.{add-one}
 use native.Mathlib.Omega.{arith}
 use borrow.Author.Rules.{rules}
@@ -11,6 +11,7 @@ use Rattle.spec.specs.Program.{decimal}
 use Rattle.text.proofs.Digits.{places, places_more, places_pair, digits_places, pair_tens, pair_ones}
 use Rattle.text.proofs.spell.Lts
 use Rattle.text.proofs.spell.Reads
+use Rattle.text.proofs.spell.Tie
 use Rattle.text.proofs.spell.Goals as goal
 
 pub loop-k-init : goal.loop-k-init
@@ -27,7 +28,7 @@ loop-k-preserved c =
     let j = turn.k - 2 in
     let e : turn.k ≡ suc (suc j) = omega arith in
     let p = turn.rest % 100 in
-    let all = c.requires.0 in
+    let all = c.requires.pairs_value in
     let tens = ap (λ l. get_or l (p * 2) 0) all ∙ pair_tens p (omega arith) in
     let ones = ap (λ l. get_or l (p * 2 + 1) 0) all ∙ pair_ones p (omega arith) in (
       simp length-set turn.invariant.0,
@@ -39,11 +40,11 @@ loop-k-preserved c =
     )
 
 -- what is still to be written, where k digits are left
-left : (c : Lts.At-loop Reads.Pre Reads.Post goal.the-invariant-loop-k goal.the-decreases-loop-k) → (k : ℕ) → c.loop-k.k ≡ k → decimal c.args.n ≡ places k c.loop-k.rest ++ drop k c.loop-k.out
+left : (c : Lts.At-loop Reads.Pre Reads.Post goal.the-invariant-loop-k goal.the-decreases-loop-k Tie.handed_clauses) → (k : ℕ) → c.loop-k.k ≡ k → decimal c.args.n ≡ places k c.loop-k.rest ++ drop k c.loop-k.out
 unfolding decimal
 left c k e =
     digits_places 20 c.args.n
-    ∙ ap (λ m. places m c.args.n) (sym c.requires.1)
+    ∙ ap (λ m. places m c.args.n) (sym c.requires.out_len)
     ∙ c.loop-k.invariant.2
     ∙ ap (λ m. places m c.loop-k.rest ++ drop m c.loop-k.out) e
 

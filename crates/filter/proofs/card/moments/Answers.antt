@@ -2,7 +2,6 @@
 -- Assumes nothing.
 use mathlib.Core.Path.{sym, ◌∙◌}
 use native.Mathlib.Omega.{arith}
-use borrow.Author.Rules.{rules}
 use Rattle.spec.specs.Recipe.{recipe}
 use Rattle.laws.proofs.Refusals.{answer_refused, answer_accepted}
 use Rattle.filter.proofs.Refusal.{number_is, known, accepted_counts}

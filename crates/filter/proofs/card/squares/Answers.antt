@@ -1,10 +1,9 @@
 -- What `search` does not find of `card::squares`.
 use mathlib.Core.Path.{refl}
-use Prim.Native.Nat.{◌-◌}
 use native.Mathlib.Omega.{arith}
 use borrow.Author.Rules.{rules}
 use Rattle.spec.specs.Gray.{box_square, squares}
-use Rattle.filter.proofs.Widths.{Summed, summed_none, summed_more, summed_all}
+use Rattle.filter.proofs.Widths.{summed_none, summed_more, summed_all}
 use Rattle.filter.proofs.card.squares.Goals as goal
 
 pub loop-i-init : goal.loop-i-init

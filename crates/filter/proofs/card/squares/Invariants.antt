@@ -1,11 +1,8 @@
 -- `filter::card::squares` meets its contract: after i widths the sum is the total over them.
 -- Assumes nothing.
-use mathlib.Core.Path.{refl}
 use Prim.Native.Nat.{◌-◌}
-use native.Mathlib.Omega.{arith}
-use borrow.Author.Rules.{rules}
-use Rattle.spec.specs.Gray.{box_square, squares}
-use Rattle.filter.proofs.Widths.{Summed, summed_none, summed_more, summed_all}
+use Rattle.spec.specs.Gray.{box_square}
+use Rattle.filter.proofs.Widths.{Summed}
 use Rattle.filter.proofs.card.squares.Given as goal
 
 abbrev pub invariant-loop-i : goal.invariant-loop-i

@@ -1,7 +1,6 @@
 -- `filter::card::variance` meets its contract: the sum of the squares, divided by 12 once.
 -- Assumes nothing.
 use mathlib.Core.Path.{ap, ◌∙◌}
-use borrow.Author.Rules.{rules}
 use Rattle.spec.specs.Gray.{ratio, variance}
 use Rattle.filter.proofs.card.variance.Goals as goal
 

@@ -1,6 +1,5 @@
 -- `filter::checks::check` meets its contract: the number is the one that measuring answers.
 -- Assumes nothing.
-use borrow.Author.Rules.{rules}
 use Rattle.filter.proofs.Refusal.{number_is}
 use Rattle.filter.proofs.checks.check.Goals as goal
 

@@ -1,12 +1,10 @@
 -- What `search` does not find of `checks::survey`.
-use mathlib.Core.Path.{◌≡◌, refl, ap, ◌∙◌}
-use Prim.Native.Nat.{◌+◌, ◌-◌, ◌*◌, ◌^◌, min}
-use native.Mathlib.Omega.{arith}
+use mathlib.Core.Path.{refl, ap, ◌∙◌}
+use Prim.Native.Nat.{◌+◌, ◌*◌, ◌^◌, min}
 use borrow.Author.Rules.{rules}
 use Rattle.spec.specs.Words.{product}
 use Rattle.spec.specs.Recipe.{widths, box_order, order, weight}
-use Rattle.filter.proofs.Widths.{Summed, summed_none, within, summed_more, passed, summed_all, capped_more}
-use lib.ListN.{take}
+use Rattle.filter.proofs.Widths.{summed_none, within, summed_more, passed, summed_all, capped_more}
 use Rattle.filter.proofs.checks.survey.Goals as goal
 
 pub loop-i-init : goal.loop-i-init

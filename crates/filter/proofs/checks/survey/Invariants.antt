@@ -1,13 +1,10 @@
 -- `filter::checks::survey` meets its contract. After i widths the reach is the total over them, and the weight is theirs, held at its
 -- limit.
 -- Assumes nothing.
-use mathlib.Core.Path.{◌≡◌, refl, ap, ◌∙◌}
+use mathlib.Core.Path.{◌≡◌}
 use Prim.Native.Nat.{◌+◌, ◌-◌, ◌*◌, ◌^◌, min}
-use native.Mathlib.Omega.{arith}
-use borrow.Author.Rules.{rules}
-use Rattle.spec.specs.Words.{product}
-use Rattle.spec.specs.Recipe.{widths, box_order, order, weight}
-use Rattle.filter.proofs.Widths.{Summed, summed_none, within, summed_more, passed, summed_all, capped_more}
+use Rattle.spec.specs.Recipe.{widths, box_order, weight}
+use Rattle.filter.proofs.Widths.{Summed}
 use lib.ListN.{take}
 use Rattle.filter.proofs.checks.survey.Given as goal
 

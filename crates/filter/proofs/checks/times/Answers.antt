@@ -2,7 +2,6 @@
 -- Assumes nothing.
 use native.Mathlib.Nat.{lt_of_le_of_lt, mul-le-mul, le-pred_of_lt}
 use lib.Dec.{lit<}
-use borrow.Author.Rules.{rules}
 use Rattle.filter.proofs.checks.times.Goals as goal
 
 pub overflow_mul-product : goal.overflow_mul-product

@@ -1,13 +1,13 @@
 -- What `search` does not find of `coefficients::accumulate`.
 use mathlib.Core.Path.{◌≡◌, refl, ap, ap₂, ◌∙◌}
-use Prim.Native.Nat.{◌+◌, ◌-◌, ◌^◌, ◌≤◌}
+use Prim.Native.Nat.{◌+◌, ◌^◌, ◌≤◌}
 use native.Mathlib.Omega.{arith}
 use borrow.Author.Rules.{rules}
 use Rattle.spec.specs.Words.{sum}
 use Rattle.laws.proofs.Sums.{sum_grows}
 use Rattle.laws.proofs.Sequences.{running}
 use Rattle.laws.proofs.Kernels.{at}
-use Rattle.laws.proofs.Slices.{Rightwards, rightwards_none, rightwards_more, rightwards_all, mixed_back}
+use Rattle.laws.proofs.Slices.{rightwards_none, rightwards_more, rightwards_all, mixed_back}
 use native.Mathlib.Nat.{le_refl, le_trans}
 use native.Mathlib.Numerals.{add-one}
 use lib.ListN.{length, get_or, length-set}

@@ -1,17 +1,12 @@
 -- `filter::coefficients::accumulate` meets its contract: entries are written from the left, each the total so far.
 -- Assumes nothing.
-use mathlib.Core.Path.{◌≡◌, refl, ap, ap₂, ◌∙◌}
-use Prim.Native.Nat.{◌+◌, ◌-◌, ◌^◌, ◌≤◌}
-use native.Mathlib.Omega.{arith}
-use borrow.Author.Rules.{rules}
+use mathlib.Core.Path.{◌≡◌}
+use Prim.Native.Nat.{◌-◌, ◌≤◌}
 use Rattle.spec.specs.Words.{sum}
-use Rattle.laws.proofs.Sums.{sum_grows}
 use Rattle.laws.proofs.Sequences.{running}
 use Rattle.laws.proofs.Kernels.{at}
-use Rattle.laws.proofs.Slices.{Rightwards, rightwards_none, rightwards_more, rightwards_all, mixed_back}
-use native.Mathlib.Nat.{le_refl, le_trans}
-use native.Mathlib.Numerals.{add-one}
-use lib.ListN.{length, get_or, length-set}
+use Rattle.laws.proofs.Slices.{Rightwards}
+use lib.ListN.{length}
 use Rattle.filter.proofs.coefficients.accumulate.Given as goal
 
 abbrev pub invariant-loop-k : goal.invariant-loop-k

@@ -1,12 +1,12 @@
 -- What `search` does not find of `coefficients::difference`.
 use mathlib.Core.Path.{◌≡◌, sym, ap₂, ◌∙◌}
-use Prim.Native.Nat.{◌+◌, ◌-◌, ◌≤◌}
+use Prim.Native.Nat.{◌+◌, ◌-◌}
 use native.Mathlib.Omega.{arith}
 use borrow.Author.Rules.{rules}
 use Rattle.laws.proofs.Sequences.{behind, behind_within, behind_before}
 use Rattle.laws.proofs.Kernels.{at}
-use Rattle.laws.proofs.Slices.{Leftwards, leftwards_none, leftwards_more, leftwards_all, mixed_front}
-use lib.ListN.{length, get_or, length-set}
+use Rattle.laws.proofs.Slices.{leftwards_none, leftwards_more, leftwards_all, mixed_front}
+use lib.ListN.{get_or, length-set}
 use Rattle.filter.proofs.coefficients.difference.Lts
 use Rattle.filter.proofs.coefficients.difference.Reads
 use Rattle.filter.proofs.coefficients.difference.Goals as goal

@@ -1,13 +1,11 @@
 -- `filter::coefficients::difference` meets its contract: entries are written from the right, so that what is read still stands.
 -- Assumes nothing.
-use mathlib.Core.Path.{◌≡◌, sym, ap₂, ◌∙◌}
-use Prim.Native.Nat.{◌+◌, ◌-◌, ◌≤◌}
-use native.Mathlib.Omega.{arith}
-use borrow.Author.Rules.{rules}
-use Rattle.laws.proofs.Sequences.{behind, behind_within, behind_before}
+use mathlib.Core.Path.{◌≡◌}
+use Prim.Native.Nat.{◌-◌, ◌≤◌}
+use Rattle.laws.proofs.Sequences.{behind}
 use Rattle.laws.proofs.Kernels.{at}
-use Rattle.laws.proofs.Slices.{Leftwards, leftwards_none, leftwards_more, leftwards_all, mixed_front}
-use lib.ListN.{length, get_or, length-set}
+use Rattle.laws.proofs.Slices.{Leftwards}
+use lib.ListN.{length}
 use Rattle.filter.proofs.coefficients.difference.Given as goal
 
 abbrev pub invariant-loop-k : goal.invariant-loop-k

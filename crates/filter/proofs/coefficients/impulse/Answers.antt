@@ -1,14 +1,12 @@
 -- What `search` does not find of `coefficients::impulse`.
-use mathlib.Core.Path.{◌≡◌, sym, ◌∙◌}
+use mathlib.Core.Path.{sym, ◌∙◌}
 use mathlib.Core.List.{[]}
-use Prim.Native.Nat.{◌-◌, ◌≤◌}
 use native.Mathlib.Omega.{arith}
 use borrow.Author.Rules.{rules}
 use Rattle.spec.specs.Recipe.{kernel}
 use Rattle.laws.proofs.Kernels.{at, impulse_start, impulse_later}
-use Rattle.laws.proofs.Slices.{Rightwards, rightwards_none, rightwards_more, rightwards_all}
-use mathlib.Core.Logic.{⊎_elim}
-use lib.ListN.{length, length-set}
+use Rattle.laws.proofs.Slices.{rightwards_none, rightwards_more, rightwards_all}
+use lib.ListN.{length-set}
 use Rattle.filter.proofs.coefficients.impulse.Goals as goal
 use Rattle.filter.proofs.coefficients.impulse.Goals.{then-k-eq0, else-k-eq0}
 

@@ -1,15 +1,12 @@
 -- `filter::coefficients::impulse` meets its contract: entries are written from the left.
 -- Assumes nothing.
-use mathlib.Core.Path.{◌≡◌, sym, ◌∙◌}
+use mathlib.Core.Path.{◌≡◌}
 use mathlib.Core.List.{[]}
 use Prim.Native.Nat.{◌-◌, ◌≤◌}
-use native.Mathlib.Omega.{arith}
-use borrow.Author.Rules.{rules}
 use Rattle.spec.specs.Recipe.{kernel}
-use Rattle.laws.proofs.Kernels.{at, impulse_start, impulse_later}
-use Rattle.laws.proofs.Slices.{Rightwards, rightwards_none, rightwards_more, rightwards_all}
-use mathlib.Core.Logic.{⊎_elim}
-use lib.ListN.{length, length-set}
+use Rattle.laws.proofs.Kernels.{at}
+use Rattle.laws.proofs.Slices.{Rightwards}
+use lib.ListN.{length}
 use Rattle.filter.proofs.coefficients.impulse.Given as goal
 
 abbrev pub invariant-loop-k : goal.invariant-loop-k

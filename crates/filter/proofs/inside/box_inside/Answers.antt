@@ -1,6 +1,5 @@
 -- What `search` does not find of `inside::box_inside`.
 use mathlib.Core.Path.{◌≡◌, sym, ap, ap₂, ◌∙◌}
-use mathlib.Core.Logic.{⊎_elim}
 use mathlib.Core.List.{List}
 use Prim.Native.Nat.{ℕ, ◌+◌, ◌-◌, ◌/◌, ◌≤◌, ◌<◌, min}
 use native.Mathlib.Omega.{arith}
@@ -10,7 +9,7 @@ use Rattle.spec.specs.Words.{tab}
 use Rattle.laws.proofs.Lists.{tab_agree}
 use Rattle.laws.proofs.Sequences.{behind, boxed, running, behind_within, behind_before}
 use Rattle.laws.proofs.Kernels.{at}
-use Rattle.laws.proofs.Slices.{Rightwards, rightwards_none, rightwards_more, rightwards_all}
+use Rattle.laws.proofs.Slices.{rightwards_none, rightwards_more, rightwards_all}
 use Rattle.filter.proofs.Axes.{apart, totals_long, earlier_less, apart_box}
 use Rattle.filter.proofs.inside.box_inside.Lts
 use Rattle.filter.proofs.inside.box_inside.Reads

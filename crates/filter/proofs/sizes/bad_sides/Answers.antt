@@ -1,7 +1,6 @@
 -- `filter::sizes::bad_sides` meets its contract, by the tests on the way.
 -- Assumes nothing.
 use mathlib.Core.Path.{sym, ap, ◌∙◌}
-use borrow.Author.Rules.{rules}
 use mathlib.Core.Bool.{◌||◌}
 use Rattle.spec.specs.Refusals.{bad_side, bad_sides}
 use Rattle.filter.proofs.sizes.bad_sides.Goals as goal
