@@ -13,7 +13,7 @@ use filter::no_filter;
 use spec::Filter;
 
 // The recipe, the sides of the picture, and the rows yielded.
-#[derive(Drop)]
+#[derive(Clone, Copy)]
 pub struct State {
     pub filter: Filter,
     pub width: usize,

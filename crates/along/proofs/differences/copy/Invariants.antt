@@ -1,0 +1,12 @@
+-- `along::differences::copy` meets its contract: entries are written from the left.
+-- Assumes nothing.
+use Rattle.laws.proofs.Kernels.{at}
+use Rattle.laws.proofs.Slices.{Rightwards}
+use Rattle.std.proofs.Common.{◌≡◌, ◌-◌, ◌≤◌, length}
+use Rattle.along.proofs.differences.copy.Given as goal
+
+abbrev pub invariant-loop-k : goal.invariant-loop-k
+invariant-loop-k l = (l.k-end ≡ length l.initial.to) × (length l.to ≡ length l.initial.to) × (l.k ≤ l.k-end) × Rightwards (at l.from) l.initial.to l.k l.to
+
+abbrev pub decreases-loop-k : goal.decreases-loop-k
+decreases-loop-k l = l.k-end - l.k

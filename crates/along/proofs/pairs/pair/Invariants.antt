@@ -1,0 +1,12 @@
+-- `along::pairs::pair` meets its contract: the row is written from the left, and the value before is carried.
+-- Assumes nothing.
+use Rattle.along.proofs.Loops.{One}
+use Rattle.std.proofs.Common.{◌≡◌, ◌-◌, ◌^◌, ◌≤◌, length}
+use Rattle.along.proofs.pairs.pair.Given as goal
+
+abbrev pub invariant-loop-k : goal.invariant-loop-k
+invariant-loop-k l =
+    (l.k-end ≡ length l.initial.row) × (length l.row ≡ length l.initial.row) × (l.k ≤ l.k-end) × One (2 ^ 64) l.initial.row l.k l.before l.row
+
+abbrev pub decreases-loop-k : goal.decreases-loop-k
+decreases-loop-k l = l.k-end - l.k

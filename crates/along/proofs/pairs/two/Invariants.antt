@@ -1,0 +1,12 @@
+-- `along::pairs::two` meets its contract: the row is written from the left, and what each box adds next is carried.
+-- Assumes nothing.
+use Rattle.along.proofs.Loops.{Two}
+use Rattle.std.proofs.Common.{◌≡◌, ◌-◌, ◌^◌, ◌≤◌, length}
+use Rattle.along.proofs.pairs.two.Given as goal
+
+abbrev pub invariant-loop-k : goal.invariant-loop-k
+invariant-loop-k l =
+    (l.k-end ≡ length l.initial.row) × (length l.row ≡ length l.initial.row) × (l.k ≤ l.k-end) × Two (2 ^ 64) l.initial.row l.k l.p l.q l.row
+
+abbrev pub decreases-loop-k : goal.decreases-loop-k
+decreases-loop-k l = l.k-end - l.k
