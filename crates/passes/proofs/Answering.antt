@@ -1,19 +1,24 @@
 -- What the checks of the method answer, by the lengths of the slices, and those of the ladder, by the level first.
 -- Assumes nothing.
-use mathlib.Core.Path.{◌≡◌, refl, sym, ◌∙◌}
+use mathlib.Core.Path.{◌≡◌, refl, sym, ap, ◌∙◌}
 use mathlib.Core.Bool.{true, false, true≢false}
-use mathlib.Core.List.{[], ◌∷◌}
-use Prim.Native.Nat.{ℕ, ◌*◌, ◌≤◌, ◌<◌}
+use mathlib.Core.List.{List, [], ◌∷◌}
+use Prim.Native.Nat.{ℕ, ◌-◌, ◌*◌, ◌≤◌, ◌<◌}
+use native.Mathlib.Nat.{le_trans, le_of_eq, sub-zero}
 use native.Mathlib.Omega.{arith}
 use lib.Dec.{eqb, ltb}
-use lib.ListN.{length}
+use lib.ListN.{length, take}
+use lib.Seq.{length-take-le}
 use borrow.Author.Tests.{eq-eqb, ltb-false}
 use Rattle.spec.specs.Recipe.{Recipe}
-use Rattle.spec.specs.Picture.{Picture}
+use Rattle.spec.specs.Picture.{Picture, Sides, full_sides}
 use Rattle.spec.specs.Ladder.{Axes, ladder}
-use Rattle.spec.specs.Refusals.{check, first, other_pixels, other_output, too_few_cells, bad_level, full_size, size_checks, picture_checks, pass_checks, ladder_checks}
+use Rattle.spec.specs.Refusals.{check, first, answer, other_pixels, other_output, too_few_cells, bad_level, full_size, size_checks, picture_checks, pass_checks, ladder_checks}
 use Rattle.laws.proofs.Numbers.{neither}
-use Rattle.laws.proofs.Refusals.{AcceptedPicture, is_accepted_picture, none_both, first_none, same_length_so, picture_numbered, picture_sides, picture_pixels, picture_rest, by_output, after_output, by_cells, after_cells}
+use Rattle.laws.proofs.Refusals.{AcceptedPicture, is_accepted_picture, none_both, first_none, read_accepted, same_length_so, picture_numbered, picture_sides, picture_pixels, picture_rest, by_output, after_output, by_cells, after_cells}
+use Rattle.filter.specs.declared.sizes.FullSize.{FullSize}
+use Rattle.filter.specs.declared.sizes.FullSize.TheVariants as size
+use Rattle.filter.specs.Answers.{size_told}
 
 module _ (r : Recipe) (p : Picture) (out cells : ℕ) where
   -- 1 to 5
@@ -62,6 +67,26 @@ module _ (r : Recipe) (p : Picture) (out cells : ℕ) where
         output = same_length_so out (full_size r p) seven.0;
         work = ltb-false cells (full_size r p) eight.0;
       }
+
+-- where the grown sides came back, for an output and work cells of these lengths
+module _ (r : Recipe) (p : Picture) (out cells : List ℕ) (W H : ℕ) (came : FullSize) (is : came ≡ size.Sides W H)
+    (told : size_told came ≡ answer (pass_checks r p (length out) (length cells)) (full_sides r p.width p.height)) where
+  -- none of 1 to 8 holds, and these are the grown sides
+  pub sides :
+      let grown : Sides = record { width = W; height = H } in
+      (first (pass_checks r p (length out) (length cells)) ≡ 0) × (grown ≡ full_sides r p.width p.height)
+  sides = read_accepted _ _ _ (ap size_told (sym is) ∙ told)
+
+  -- what is known then
+  pub asked : Asked r p (length out) (length cells)
+  asked = asked_none r p (length out) (length cells) sides.0
+
+  -- the part of the work cells that is lent is as long as the output
+  pub cells_enough : length out ≤ length cells
+  cells_enough = le_trans (le_of_eq asked.output) asked.work
+
+  pub part_long : length (take (length out - 0) cells) ≡ length out
+  part_long = length-take-le (length out - 0) cells (le_trans (le_of_eq (sub-zero (length out))) cells_enough) ∙ sub-zero (length out)
 
 -- the ladder: 16, and where the level is one of 1 to 8 the checks of the method
 pub by_level : (a : Axes) (level : ℕ) (p : Picture) (out cells : ℕ) → bad_level level ≡ true → first (ladder_checks a level p out cells) ≡ 16

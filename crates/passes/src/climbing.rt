@@ -21,7 +21,7 @@ use filter::FullSize;
 use spec::{Cascade, Filter};
 
 // The axes that a ladder widens on.
-#[derive(Drop)]
+#[derive(Clone, Copy)]
 pub enum Axes {
     Rows,
     Both,
