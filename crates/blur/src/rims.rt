@@ -9,7 +9,7 @@ ghost use Rattle.blur.specs.Rims.{Weighty, Dim, Level, rim_place, Inverted, Read
 use gray::{Divisor, divisor_of, divisor_with, reciprocal_of, round_one, round_row};
 
 // Picture columns, from one of them to before another.
-#[derive(Drop)]
+#[derive(Clone, Copy)]
 pub(crate) struct Span {
     from: usize,
     to: usize,
@@ -17,7 +17,7 @@ pub(crate) struct Span {
 
 // Picture rows of one inside weight down the columns: that weight, the columns in the middle, and what
 // divides there.
-#[derive(Drop)]
+#[derive(Clone, Copy)]
 pub(crate) struct Band {
     down: u64,
     middle: Span,

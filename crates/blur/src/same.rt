@@ -60,7 +60,7 @@ fn gray_rows(
 }
 
 // A picture's sides.
-#[derive(Drop)]
+#[derive(Clone, Copy)]
 struct Sides {
     width: usize,
     height: usize,

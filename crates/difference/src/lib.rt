@@ -34,7 +34,7 @@ fn signed(x: u64, y: u64, by: Divisor) -> i16
 }
 
 // The weights of both recipes, and what divides by their product.
-#[derive(Drop)]
+#[derive(Clone, Copy)]
 struct Weights {
     a: u64,
     b: u64,
@@ -54,7 +54,7 @@ fn difference_row(weights: Weights, a_sums: &[u64], b_sums: &[u64], out: &mut [i
 }
 
 // The states of both one passes.
-#[derive(Drop)]
+#[derive(Clone, Copy)]
 struct Pair {
     a: State,
     b: State,
@@ -83,7 +83,7 @@ fn next_rows(
 }
 
 // The first grown column that is taken of each recipe's rows, and the first of the second's work cells.
-#[derive(Drop)]
+#[derive(Clone, Copy)]
 struct Places {
     a_left: usize,
     b_left: usize,
@@ -129,14 +129,14 @@ fn differences(
 }
 
 // A recipe, and what measuring it told.
-#[derive(Drop)]
+#[derive(Clone, Copy)]
 struct Operand {
     filter: Filter,
     known: Measures,
 }
 
 // A picture's sides, and the first of the second recipe's work cells.
-#[derive(Drop)]
+#[derive(Clone, Copy)]
 struct Shape {
     width: usize,
     height: usize,
@@ -212,7 +212,7 @@ fn pair_refusal(m: Measures, n: Measures) -> u8
 }
 
 // A picture's sides, and how long the slices are that are lent with it.
-#[derive(Drop)]
+#[derive(Clone, Copy)]
 struct Given {
     width: usize,
     height: usize,
@@ -223,7 +223,7 @@ struct Given {
 
 // A refusal or 0, the grown widths, the first of the second recipe's work cells, and how many are
 // needed.
-#[derive(Drop)]
+#[derive(Clone, Copy)]
 struct Plan {
     refusal: u8,
     a_width: usize,

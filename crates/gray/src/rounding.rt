@@ -18,7 +18,7 @@ const RECIPROCAL_BITS: u32 = 55;
 
 // A weight to divide by: its half, downwards; 2^55 over it, downwards, or 0 for a weight of 0; and whether
 // it has a single bit set, since a shift then divides by it.
-#[derive(Drop)]
+#[derive(Clone, Copy)]
 pub struct Divisor {
     pub weight: u64,
     pub half: u64,
@@ -93,7 +93,7 @@ fn signed(n: u64) -> i64
 }
 
 // A grey, and the leftover of its sum.
-#[derive(Drop)]
+#[derive(Clone, Copy)]
 pub struct Shade {
     pub gray: u8,
     pub leftover: i64,

@@ -9,10 +9,10 @@ pub reading_between : ReadingBetween
 reading_between r p i j x read =
     let is = as_defined r p i j x read in
     let fits = same_grays_between r p is.picture i j is.column is.row in
-    (is.gray, is.leftover, is.case, (omega (arith, is.same-gray, fits.0), omega (arith, is.same-gray, fits.1)))
+    (is.gray, is.leftover, is.case, (omega (arith, is.is_same_gray, fits.0), omega (arith, is.is_same_gray, fits.1)))
 
 pub reading_rises : ReadingRises
 reading_rises r p q u i j x y before after =
     let a = as_defined r p i j x before in
     let b = as_defined r q i j y after in
-    (a.gray, b.gray, a.leftover, b.leftover, a.case, b.case, omega (arith, a.same-gray, b.same-gray, grays_rise r p q u i j))
+    (a.gray, b.gray, a.leftover, b.leftover, a.case, b.case, omega (arith, a.is_same_gray, b.is_same_gray, grays_rise r p q u i j))

@@ -23,8 +23,8 @@ pub record AsDefined (r : Recipe) (p : Picture) (i j : ℕ) (x : Sampled) : Type
   pub gray : ℕ
   pub leftover : ℤ
   pub case : x ≡ sampled.Of (sample.Gray gray leftover)
-  pub same_gray_lem : gray ≡ same_gray r p i j
-  pub same_leftover_lem : leftover ≡ same_leftover r p i j
+  pub is_same_gray : gray ≡ same_gray r p i j
+  pub is_same_leftover : leftover ≡ same_leftover r p i j
 
 -- whether a reading is a grey, the grey and its leftover
 abbrev is_gray : Reading → Bool
@@ -63,6 +63,6 @@ as_defined r p i j (sampled.Of (sample.Gray g l)) (told, none) =
       gray = g;
       leftover = l;
       case = refl;
-      same_gray_lem = ap gray_in is;
-      same_leftover_lem = ap leftover_in is;
+      is_same_gray = ap gray_in is;
+      is_same_leftover = ap leftover_in is;
     }

@@ -11,4 +11,4 @@ pub reading_fits : ReadingFits
 reading_fits r p i j x read =
     let is = as_defined r p i j x read in
     let fits = same_leftovers_fit r p is.picture i j is.column is.row in
-    (is.gray, is.leftover, is.case, subst (WithinHalf (place_weight r p i j)) (sym is.same-leftover) fits)
+    (is.gray, is.leftover, is.case, subst (WithinHalf (place_weight r p i j)) (sym is.is_same_leftover) fits)
