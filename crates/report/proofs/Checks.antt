@@ -9,7 +9,7 @@ use lib.Dec.{ltb}
 use lib.ListN.{length, drop, replicate, length-append, length-replicate, length-drop}
 use borrow.Author.Tests.{lt-ltb, le-ltb, ltb-false}
 use Rattle.spec.specs.declared.Filter.{Filter}
-use Rattle.spec.specs.Recipe.{recipe, held_filter, gain}
+use Rattle.spec.specs.Recipe.{recipe, held_filter}
 use Rattle.spec.specs.Picture.{full_width_of, full_height_of}
 use Rattle.spec.specs.Stream.{stream_cells}
 use Rattle.spec.specs.Job.{job_recipe, job_width, job_height, job_offset, job_length}

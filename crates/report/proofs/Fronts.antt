@@ -9,7 +9,6 @@ use lib.ListN.{length, take, drop, replicate, take-append-drop, length-append, l
 use lib.Seq.{take-length, drop-length, take-append_seam, drop-append_seam, take_at, drop-append-le, length-take-le, drop-drop}
 use Rattle.spec.specs.Program.{line, refusal_printed}
 use Rattle.spec.specs.Refusals.{Answer, accepted, refused, first, either}
-use Rattle.laws.proofs.Slices.{copied_whole}
 use Rattle.laws.proofs.Refusals.{read_refused, read_accepted, lent_accepted, after_output}
 use Rattle.text.proofs.Lines.{length_line, length_refusal}
 use Rattle.text.specs.Printed.{Printed, line_checks}
@@ -54,15 +53,12 @@ front_more done t old text at to is p q =
 
 -- a line at the front of one text is copied to the front of another
 pub copied_front : (t old text : List ℕ) (n : ℕ) → n ≡ length t → n ≤ length text → (from : List ℕ) → from ≡ front t old → (part : List ℕ)
-    → part ≡ take (length (take (n - 0) from)) (take (n - 0) from) ++ drop (length (take (n - 0) from)) (take (n - 0) text)
-    → part ++ drop (n - 0) text ≡ front t text
+    → part ≡ take (n - 0) from → part ++ drop (n - 0) text ≡ front t text
 unfolding front
 copied_front t old text n size inside from is part copied =
     let all : n - 0 ≡ length t = omega arith in
     let given : take (n - 0) from ≡ t = ap₂ take all is ∙ take-append_seam t (drop (length t) old) in
-    let sizes : length (take (n - 0) from) ≡ length (take (n - 0) text) =
-    ap length given ∙ sym all ∙ sym (length-take-le (n - 0) text (omega arith)) in
-    ap₂ ◌++◌ (copied ∙ copied_whole (take (n - 0) from) (take (n - 0) text) sizes ∙ given) (ap (λ k. drop k text) all)
+    ap₂ ◌++◌ (copied ∙ given) (ap (λ k. drop k text) all)
 
 -- a line that is printed into a slice of just its room
 module _ (ns old new : List ℕ) (told : Answer ℕ) (p : Printed ns old told new) (room : length old ≡ 21 * length ns + 1) where

@@ -10,7 +10,7 @@ use text::{Line, line, refusal_line};
 // A job that the program has opened: 0 or the number of the refusal, the state of the one pass, the
 // offset at which the pixels begin, the grown sides and the weight, and whether the first line is out. On
 // a refusal all but the number is zero.
-#[derive(Drop)]
+#[derive(Clone, Copy)]
 pub struct Opened {
     pub refusal: u8,
     pub state: State,
