@@ -9,9 +9,6 @@ pub three_rings-requires : goal.three_rings-requires
 three_rings-requires c =
     subst (λ n. Rings (length c.args.row.now) n (length c.args.own.now) c.args.befores.now c.args.oldests.now) c.if-count-eq3.true c.requires.1
 
-pub rings-requires : goal.rings-requires
-rings-requires c = c.requires
-
 pub returns-then-count-eq3 : goal.returns-then-count-eq3
 returns-then-count-eq3 c =
     let a = c.args in
@@ -19,6 +16,3 @@ returns-then-count-eq3 c =
     let done = c.three_rings.ensures in
     let made = ap (λ n. rings_from 0 a.befores.now a.oldests.now n a.row.now a.own.now) (sym three) in
     (done.0 ∙ ap (λ (w : Worked). w.row) made, done.1 ∙ ap (λ (w : Worked). w.cells) made)
-
-pub returns-else-count-eq3 : goal.returns-else-count-eq3
-returns-else-count-eq3 c = c.rings.ensures
