@@ -60,7 +60,7 @@ fn gray_rows(
 }
 
 // A picture's sides.
-#[derive(Clone, Copy)]
+#[derive(Drop)]
 struct Sides {
     width: usize,
     height: usize,

@@ -67,12 +67,12 @@ module _ (a b : Operand) (w h : ℕ) (pixels : List ℕ) (front all : ℕ) (ok :
   -- both one passes, started and with the rows above passed over
   module _ (s t : State) (ys zs : List ℕ) (st : Streamed a.filter (picture w h pixels) (a.known.column_order / 2) s ys)
       (tt : Streamed b.filter (picture w h pixels) (b.known.column_order / 2) t zs) where
-    pub both_taken : (a_row bRow cells : List ℕ) (by : Divisor) → length a_row ≡ full_width_of (recipe a.filter) w
-        → length bRow ≡ full_width_of (recipe b.filter) w → take front cells ≡ ys → drop front cells ≡ zs → length cells ≡ all
+    pub both_taken : (a_row b_row cells : List ℕ) (by : Divisor) → length a_row ≡ full_width_of (recipe a.filter) w
+        → length b_row ≡ full_width_of (recipe b.filter) w → take front cells ≡ ys → drop front cells ≡ zs → length cells ≡ all
         → by ≡ divisor (a.known.gain * b.known.gain)
         → BothTaken (record { a = s; b = t }) (record { a = a.known.gain; b = b.known.gain; by = by })
-        (record { a_left = a.known.row_order / 2; b_left = b.known.row_order / 2; middle = front }) pixels a_row bRow cells
-    both_taken a_row bRow cells by a_wide b_wide fore back size is =
+        (record { a_left = a.known.row_order / 2; b_left = b.known.row_order / 2; middle = front }) pixels a_row b_row cells
+    both_taken a_row b_row cells by a_wide b_wide fore back size is =
         let k = ok.first_known in
         let l = ok.second_known in
         record {
@@ -80,8 +80,8 @@ module _ (a b : Operand) (w h : ℕ) (pixels : List ℕ) (front all : ℕ) (ok :
               subst (Taken s (a.known.row_order / 2) pixels a_row) (sym fore)
               (is_taken a.filter w h pixels _ s ys st _ a_row first_accepted_lem (ap (λ n. n / 2) k.column_reach) (ap (λ n. n / 2) k.row_reach) a_wide);
           second =
-              subst (Taken t (b.known.row_order / 2) pixels bRow) (sym back)
-              (is_taken b.filter w h pixels _ t zs tt _ bRow second_accepted_lem (ap (λ n. n / 2) l.column_reach) (ap (λ n. n / 2) l.row_reach) b_wide);
+              subst (Taken t (b.known.row_order / 2) pixels b_row) (sym back)
+              (is_taken b.filter w h pixels _ t zs tt _ b_row second_accepted_lem (ap (λ n. n / 2) l.column_reach) (ap (λ n. n / 2) l.row_reach) b_wide);
           same_width = ap (λ (x : State). x.width) tt.is ∙ sym (ap (λ (x : State). x.width) st.is);
           same_height = ap (λ (x : State). x.height) tt.is ∙ sym (ap (λ (x : State). x.height) st.is);
           inside = omega (arith, front_inside, size);

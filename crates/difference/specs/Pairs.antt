@@ -16,9 +16,9 @@ use Rattle.gray.specs.Division.{Divides}
 use Rattle.rows.specs.Taking.{Taken}
 
 -- Both one passes of the same picture stand before the first row that is taken, each with its own part of the cells.
-pub record BothTaken (pair : Pair) (weights : Weights) (places : Places) (pixels a_row bRow cells : List ℕ) : Type 0 where
+pub record BothTaken (pair : Pair) (weights : Weights) (places : Places) (pixels a_row b_row cells : List ℕ) : Type 0 where
   pub first : Taken pair.a places.a_left pixels a_row (take places.middle cells)
-  pub second : Taken pair.b places.b_left pixels bRow (drop places.middle cells)
+  pub second : Taken pair.b places.b_left pixels b_row (drop places.middle cells)
   pub same_width : pair.b.width ≡ pair.a.width
   pub same_height : pair.b.height ≡ pair.a.height
   pub inside : places.middle ≤ length cells

@@ -54,7 +54,7 @@ fn difference_row(weights: Weights, a_sums: &[u64], b_sums: &[u64], out: &mut [i
 }
 
 // The states of both one passes.
-#[derive(Clone, Copy)]
+#[derive(Drop)]
 struct Pair {
     a: State,
     b: State,
@@ -83,7 +83,7 @@ fn next_rows(
 }
 
 // The first grown column that is taken of each recipe's rows, and the first of the second's work cells.
-#[derive(Clone, Copy)]
+#[derive(Drop)]
 struct Places {
     a_left: usize,
     b_left: usize,
@@ -212,7 +212,7 @@ fn pair_refusal(m: Measures, n: Measures) -> u8
 }
 
 // A picture's sides, and how long the slices are that are lent with it.
-#[derive(Clone, Copy)]
+#[derive(Drop)]
 struct Given {
     width: usize,
     height: usize,
@@ -223,7 +223,7 @@ struct Given {
 
 // A refusal or 0, the grown widths, the first of the second recipe's work cells, and how many are
 // needed.
-#[derive(Clone, Copy)]
+#[derive(Drop)]
 struct Plan {
     refusal: u8,
     a_width: usize,

@@ -13,7 +13,7 @@ const HEAVIEST: u64 = 17_592_186_044_416;
 const TOO_HEAVY: u64 = 17_592_186_044_417;
 
 // A recipe's refusal, 0 where it is accepted; its weight and its reaches, all 0 on a refusal.
-#[derive(Drop)]
+#[derive(Clone, Copy)]
 pub struct Measures {
     pub refusal: u8,
     pub gain: u64,

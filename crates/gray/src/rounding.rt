@@ -93,7 +93,7 @@ fn signed(n: u64) -> i64
 }
 
 // A grey, and the leftover of its sum.
-#[derive(Clone, Copy)]
+#[derive(Drop)]
 pub struct Shade {
     pub gray: u8,
     pub leftover: i64,

@@ -1,9 +1,9 @@
 -- What `search` does not find of `rims::invert`.
 use mathlib.Core.Path.{◌≡◌, sym, subst}
-use Prim.Native.Nat.{ℕ, ◌-◌, ◌<◌}
+use Prim.Native.Nat.{ℕ, ◌<◌}
 use native.Mathlib.Omega.{arith}
 use borrow.Author.Rules.{rules}
-use lib.ListN.{length, get_or, length-set}
+use lib.ListN.{get_or, length-set}
 use Rattle.gray.specs.Division.{reciprocal_of}
 use Rattle.blur.specs.Rims.{weight_at, AtRim}
 use Rattle.blur.proofs.Parts.{rim_first, rim_next, rim_later, none_before, stored}

@@ -1,13 +1,10 @@
 -- `blur::rims::invert` meets its contract: at each turn the reciprocals stand at all places of the rims before the next.
 -- Assumes nothing.
-use mathlib.Core.Path.{◌≡◌, sym, subst}
+use mathlib.Core.Path.{◌≡◌}
 use Prim.Native.Nat.{ℕ, ◌-◌, ◌<◌}
-use native.Mathlib.Omega.{arith}
-use borrow.Author.Rules.{rules}
-use lib.ListN.{length, get_or, length-set}
+use lib.ListN.{length, get_or}
 use Rattle.gray.specs.Division.{reciprocal_of}
 use Rattle.blur.specs.Rims.{weight_at, AtRim}
-use Rattle.blur.proofs.Parts.{rim_first, rim_next, rim_later, none_before, stored}
 use Rattle.blur.proofs.rims.invert.Given as goal
 
 abbrev pub invariant-loop-k : goal.invariant-loop-k

@@ -3,7 +3,6 @@
 use mathlib.Core.Path.{refl, sym}
 use Prim.Native.Nat.{◌<◌}
 use native.Mathlib.Omega.{arith}
-use borrow.Author.Rules.{rules}
 use lib.ListN.{length}
 use Rattle.blur.proofs.rims.next_band.Lts
 use Rattle.blur.proofs.rims.next_band.Reads

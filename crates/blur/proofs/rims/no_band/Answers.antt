@@ -1,7 +1,6 @@
 -- `blur::rims::no_band` meets its contract: the run of equal weights around the column in the middle.
 -- Assumes nothing.
 use mathlib.Core.Path.{refl}
-use borrow.Author.Rules.{rules}
 use Rattle.blur.proofs.Parts.{level_run}
 use Rattle.blur.proofs.rims.no_band.Goals as goal
 

@@ -1,19 +1,11 @@
 -- `blur::rims::rims` meets its contract: at each turn greys and leftovers stand at all places of the rims before the next.
 -- Assumes nothing.
-use mathlib.Core.Path.{◌≡◌, sym, subst, ◌∙◌}
-use Prim.Native.Nat.{ℕ, ◌-◌, ◌≤◌, ◌<◌}
-use native.Mathlib.Omega.{arith}
-use borrow.Author.Rules.{rules}
+use mathlib.Core.Path.{◌≡◌}
+use Prim.Native.Nat.{ℕ, ◌-◌, ◌<◌}
 use lib.IntN.{pos}
-use lib.ListN.{length, get_or, length-set}
-use mir.Syntax.{w64}
-use mir.Val.{SFits}
-use mir.ValLaws.{to_z-of_z}
+use lib.ListN.{length, get_or}
 use Rattle.spec.specs.Gray.{gray, leftover}
-use Rattle.gray.specs.Division.{Divides}
-use Rattle.gray.proofs.Dividing.{shade_is}
 use Rattle.blur.specs.Rims.{weight_at, AtRim}
-use Rattle.blur.proofs.Parts.{rim_first, rim_next, rim_later, none_before, stored, rim_divides}
 use Rattle.blur.proofs.rims.rims.Given as goal
 
 abbrev pub invariant-loop-k : goal.invariant-loop-k

@@ -1,10 +1,9 @@
 -- What `search` does not find of `rims::run_end`.
 use mathlib.Core.Path.{◌≡◌, ap, ◌∙◌}
-use Prim.Native.Nat.{ℕ, ◌-◌, ◌≤◌, ◌<◌}
 use native.Mathlib.Decide.{dec_lt}
 use native.Mathlib.Omega.{arith}
 use borrow.Author.Rules.{rules}
-use lib.ListN.{length, get_or}
+use lib.ListN.{get_or}
 use Rattle.blur.proofs.rims.run_end.Goals as goal
 
 pub loop-to-init : goal.loop-to-init

@@ -1,15 +1,13 @@
 -- `blur::rims::shade_row` meets its contract: the rims are written, and then the middle.
 -- Assumes nothing.
-use mathlib.Core.Path.{◌≡◌, sym, ap, ◌∙◌}
+use mathlib.Core.Path.{◌≡◌, ◌∙◌}
 use mathlib.Core.List.{◌++◌, map}
 use Prim.Native.Nat.{◌-◌, ◌≤◌, ◌<◌}
 use native.Mathlib.Omega.{arith}
-use borrow.Author.Rules.{rules}
 use lib.IntN.{pos}
 use lib.ListN.{length, take, drop}
 use Rattle.spec.specs.Picture.{largest_gray}
 use Rattle.spec.specs.Gray.{gray, leftover, grays, leftovers}
-use Rattle.laws.proofs.Lists.{length_tab}
 use Rattle.laws.proofs.Slices.{alike}
 use Rattle.gray.proofs.Dividing.{shades_are}
 use Rattle.gray.proofs.Grays.{shaded_made}
