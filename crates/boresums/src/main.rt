@@ -5,14 +5,19 @@
 use std::fmt::InlineText;
 use std::io::{Eprint, Error, Result};
 
-// Writes what cannot be done to standard error, and why: the error's words, without the system's number.
+// An error's text without the system's number for it.
+fn words(text: &str) -> &str {
+    match text.split_once(" (os error ") {
+        Some((words, _)) => words,
+        None => text,
+    }
+}
+
+// Writes to standard error what cannot be done, and why.
 fn fail(rt: &impl Eprint, what: &str, error: Error) -> Result<()> {
     let text = InlineText::<300>::of(error);
-    let words = match text.as_str().split_once(" (os error ") {
-        Some((words, _)) => words,
-        None => text.as_str(),
-    };
-    eprintln!(rt; "boresums: cannot {what}: {words}")
+    let why = words(text.as_str());
+    eprintln!(rt; "boresums: cannot {what}: {why}")
 }
 
 fn main(rt: HostRuntime) {
