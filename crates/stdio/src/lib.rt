@@ -2,7 +2,8 @@
 // write that took nothing, is made again, a bounded number of times.
 #![tactic(auto)]
 
-ghost use Rattle.std.specs.Prelude.{◌≡◌, ◌↔◌, ◌<◌, ◌≤◌, length, take, IsNone, IsSome, IsTrue};
+ghost use Rattle.std.specs.Prelude.{◌≡◌, ◌↔◌, ◌<◌, ◌≤◌, ◌⊎◌, length, take, IsNone, IsSome, IsTrue};
+ghost use Rattle.std.specs.IoError.{error_kind};
 ghost use Rattle.std.specs.Io.KnownBytes.{Appends, Consumes, IsAtEnd};
 
 use std::io::{Error, ErrorKind, Read, Write};
@@ -26,7 +27,9 @@ pub struct Output {
 
 // Whether the call that failed may go well when it is made again: it was interrupted, or it would have
 // had to wait.
-fn may_pass(error: &Error) -> bool {
+fn may_pass(error: &Error) -> bool
+    ensures { IsTrue result ↔ (error_kind error.now ≡ ErrorKind.Interrupted) ⊎ (error_kind error.now ≡ ErrorKind.WouldBlock) }
+{
     let kind = error.kind();
     kind == ErrorKind::Interrupted || kind == ErrorKind::WouldBlock
 }
