@@ -2,17 +2,35 @@
 // either cannot be done, a line on standard error says so and why.
 #![tactic(auto)]
 
-fn main() {
+use std::fmt::InlineText;
+use std::io::{Eprint, Error, Result};
+
+// An error's text without the system's number for it.
+fn words(text: &str) -> &str {
+    match text.split_once(" (os error ") {
+        Some((words, _)) => words,
+        None => text,
+    }
+}
+
+// Writes to standard error what cannot be done, and why.
+fn fail(rt: &impl Eprint, what: &str, error: Error) -> Result<()> {
+    let text = InlineText::<300>::of(error);
+    let why = words(text.as_str());
+    eprintln!(rt; "boresums: cannot {what}: {why}")
+}
+
+fn main(rt: HostRuntime) {
     let mut bytes = [0u8; 65537];
-    let input = stdio::read_all(&mut bytes);
-    if !input.is_read {
-        os::fail(b"boresums: cannot read standard input");
+    let input = stdio::read_all(&mut rt.stdin(), &mut bytes);
+    if let Some(error) = input.error {
+        let _ = fail(&rt, "read standard input", error);
         return;
     }
     let z: usize = 0;
     let count = input.count;
-    let printed = console::print_report(&bytes[z..count]);
-    if !printed.is_written {
-        os::fail(b"boresums: cannot write standard output");
+    let printed = console::print_report(&mut rt.stdout(), &bytes[z..count]);
+    if let Some(error) = printed.error {
+        let _ = fail(&rt, "write standard output", error);
     }
 }

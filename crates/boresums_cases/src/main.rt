@@ -5,98 +5,126 @@
 
 ghost use Rattle.std.specs.Prelude.{◌≤◌};
 
-use libc::STDOUT_FILENO;
 use report::{Opened, fill, open};
 use spec::{Cascade, Filter};
-use std::num::wrapping_add_u64;
+use std::io::{Result, Stdin, Stdout, Write};
 
-fn show(name: &[u8], job: &[u8]) {
-    io::write_all(STDOUT_FILENO, name);
-    console::print_report(job);
+fn show(out: &mut Stdout, name: &[u8], job: &[u8]) -> Result<()> {
+    Write::write_all(out, name)?;
+    match console::print_report(out, job).error {
+        Some(error) => Err(error),
+        None => Ok(()),
+    }
 }
 
 // What document 01 accepts, and files that are damaged.
-fn files() {
+fn files(out: &mut Stdout) -> Result<()> {
     show(
+        out,
         b"-- example\n",
         b"BOR\x01\x00\x02\x00\x02\x02\x01\x00\x01\x00\x04",
-    );
+    )?;
     show(
+        out,
         b"-- no widths, 2 by 2\n",
         b"BOR\x01\x00\x00\x00\x02\x00\x02\x00\x00\x01\x02\xFF",
-    );
+    )?;
     show(
+        out,
         b"-- rows 2, two picture rows of one pixel\n",
         b"BOR\x01\x00\x01\x00\x02\x01\x00\x02\x00\x01\x01",
-    );
+    )?;
     show(
+        out,
         b"-- columns 1,3 and rows 2\n",
         b"BOR\x01\x00\x01\x02\x02\x01\x03\x02\x00\x01\x00\x01\xFF",
-    );
+    )?;
     show(
+        out,
         b"-- columns 2,2: higher than wide\n",
         b"BOR\x01\x00\x00\x02\x02\x02\x01\x00\x01\x00\x04",
-    );
-    show(b"-- empty\n", b"");
+    )?;
+    show(out, b"-- empty\n", b"")?;
     show(
+        out,
         b"-- one byte short\n",
         b"BOR\x01\x00\x02\x00\x02\x02\x01\x00\x01\x00",
-    );
+    )?;
     show(
+        out,
         b"-- one byte long\n",
         b"BOR\x01\x00\x02\x00\x02\x02\x01\x00\x01\x00\x04\x04",
-    );
-    show(b"-- 6 bytes\n", b"BOR\x01\x00\x31");
+    )?;
+    show(out, b"-- 6 bytes\n", b"BOR\x01\x00\x31")?;
     show(
+        out,
         b"-- another mark\n",
         b"BOS\x01\x00\x02\x00\x02\x02\x01\x00\x01\x00\x04",
-    );
+    )?;
     show(
+        out,
         b"-- version 2\n",
         b"BOR\x02\x00\x02\x00\x02\x02\x01\x00\x01\x00\x04",
-    );
+    )?;
     show(
+        out,
         b"-- version 1, high byte first\n",
         b"BOR\x00\x01\x02\x00\x02\x02\x01\x00\x01\x00\x04",
-    );
+    )?;
     show(
+        out,
         b"-- cut short within the sides\n",
         b"BOR\x01\x00\x02\x00\x00\x02\x01\x00\x01",
-    );
+    )
 }
 
 // The refusals 1 to 5, each where a later one applies too, and 8.
-fn refusals() {
-    show(b"-- 49 row widths, cut short\n", b"BOR\x01\x00\x31\x00");
-    show(b"-- 49 column widths, cut short\n", b"BOR\x01\x00\x00\x31");
+fn refusals(out: &mut Stdout) -> Result<()> {
     show(
+        out,
+        b"-- 49 row widths, cut short\n",
+        b"BOR\x01\x00\x31\x00",
+    )?;
+    show(
+        out,
+        b"-- 49 column widths, cut short\n",
+        b"BOR\x01\x00\x00\x31",
+    )?;
+    show(
+        out,
         b"-- a width of 0, another length\n",
         b"BOR\x01\x00\x02\x00\x02\x00\x01\x00\x01\x00",
-    );
+    )?;
     show(
+        out,
         b"-- rows 255,3\n",
         b"BOR\x01\x00\x02\x00\xFF\x03\x00\x00\x01\x00",
-    );
+    )?;
     show(
+        out,
         b"-- 23 and 22 twos\n",
         b"BOR\x01\x00\x17\x16\x02\x02\x02\x02\x02\x02\x02\x02\x02\x02\x02\x02\x02\x02\x02\x02\x02\x02\x02\x02\x02\x02\x02\x02\x02\x02\x02\x02\x02\x02\x02\x02\x02\x02\x02\x02\x02\x02\x02\x02\x02\x02\x02\x02\x02\x00\x00\x01\x00",
-    );
+    )?;
     show(
+        out,
         b"-- width 0\n",
         b"BOR\x01\x00\x02\x00\x02\x02\x00\x00\x01\x00\x04",
-    );
+    )?;
     show(
+        out,
         b"-- height 1,025\n",
         b"BOR\x01\x00\x02\x00\x02\x02\x01\x00\x01\x04\x04",
-    );
+    )?;
     show(
+        out,
         b"-- rows 255,2 and columns 33: 8,704 cells\n",
         b"BOR\x01\x00\x02\x01\xFF\x02\x21\x01\x00\x01\x00\x09",
-    );
+    )?;
     show(
+        out,
         b"-- the same and a byte more\n",
         b"BOR\x01\x00\x02\x01\xFF\x02\x21\x01\x00\x01\x00\x09\x09",
-    );
+    )
 }
 
 // A cascade of so many widths, all of them 2.
@@ -115,7 +143,7 @@ fn paint(pixels: &mut [u8]) {
 }
 
 // Rows 2, columns 2 on a picture of 60 by 300: over 65,536 bytes of text.
-fn many_lines() {
+fn many_lines(out: &mut Stdout) -> Result<()> {
     let mut pixels = [0u8; 18000];
     paint(&mut pixels);
     let filter = Filter {
@@ -124,7 +152,7 @@ fn many_lines() {
     };
     let mut file = [0u8; 18013];
     job::write(filter, 60, 300, &pixels, &mut file);
-    show(b"-- rows 2, columns 2, 60 by 300\n", &file);
+    show(out, b"-- rows 2, columns 2, 60 by 300\n", &file)
 }
 
 // How many lines and bytes a text has so far, and the sum of these.
@@ -154,12 +182,12 @@ fn added(so_far: Digest, text: &[u8], count: usize) -> Digest {
     let mut lines = so_far.lines;
     let mut sum = so_far.sum;
     for k in 0..least(count, text.len()) {
-        lines = wrapping_add_u64(lines, line_ends(text[k]));
-        sum = wrapping_add_u64(sum, wide(text[k]));
+        lines = lines.wrapping_add(line_ends(text[k]));
+        sum = sum.wrapping_add(wide(text[k]));
     }
     Digest {
         lines,
-        bytes: wrapping_add_u64(so_far.bytes, count as u64),
+        bytes: so_far.bytes.wrapping_add(count as u64),
         sum,
     }
 }
@@ -182,27 +210,28 @@ fn digest_of(opened: Opened, job: &[u8], cells: &mut [u64], text: &mut [u8; 6553
 }
 
 // Prints a number after a space.
-fn print(n: u64) {
-    io::write_all(STDOUT_FILENO, b" ");
-    io::print_decimal(STDOUT_FILENO, n);
+fn print(out: &mut Stdout, n: u64) -> Result<()> {
+    write!(out, " {n}")
 }
 
 // Prints how many lines and bytes a job's text has, and the sum of these.
-fn print_digest(job: &[u8], cells: &mut [u64; 8192], text: &mut [u8; 65536]) {
+fn print_digest(
+    out: &mut Stdout,
+    job: &[u8],
+    cells: &mut [u64; 8192],
+    text: &mut [u8; 65536],
+) -> Result<()> {
     let opened = open(job, cells);
     let digest = digest_of(opened, job, cells, text);
-    print(digest.lines);
-    print(digest.bytes);
-    print(digest.sum);
-    io::write_all(STDOUT_FILENO, b"\n");
+    print(out, digest.lines)?;
+    print(out, digest.bytes)?;
+    print(out, digest.sum)?;
+    Write::write_all(out, b"\n")
 }
 
 // The largest job: rows 2,2, columns 2,2,2 on a picture of 260 by 252, 65,536 bytes in all.
-fn largest() {
-    io::write_all(
-        STDOUT_FILENO,
-        b"-- 65,536 bytes: lines, bytes, sum of the bytes\n",
-    );
+fn largest(out: &mut Stdout) -> Result<()> {
+    Write::write_all(out, b"-- 65,536 bytes: lines, bytes, sum of the bytes\n")?;
     let mut pixels = [0u8; 65520];
     paint(&mut pixels);
     let filter = Filter {
@@ -213,12 +242,12 @@ fn largest() {
     job::write(filter, 260, 252, &pixels, &mut file);
     let mut cells = [0u64; 8192];
     let mut text = [0u8; 65536];
-    print_digest(&file, &mut cells, &mut text);
+    print_digest(out, &file, &mut cells, &mut text)
 }
 
 // A byte more than the program takes: rows 2,2,2, columns 2,2,2 on a picture of 260 by 252, a job that is
 // in order but for its length.
-fn too_large() {
+fn too_large(out: &mut Stdout) -> Result<()> {
     let mut pixels = [0u8; 65520];
     paint(&mut pixels);
     let filter = Filter {
@@ -227,26 +256,31 @@ fn too_large() {
     };
     let mut file = [0u8; 65537];
     job::write(filter, 260, 252, &pixels, &mut file);
-    show(b"-- 65,537 bytes\n", &file);
+    show(out, b"-- 65,537 bytes\n", &file)
 }
 
 // Standard input, read as boresums reads it: the largest job, and a byte more.
-fn input() {
+fn input(from: &mut Stdin, out: &mut Stdout) -> Result<()> {
     let mut bytes = [0u8; 65537];
-    let input = stdio::read_all(&mut bytes);
+    let input = stdio::read_all(from, &mut bytes);
+    if let Some(error) = input.error {
+        return Err(error);
+    }
     let z: usize = 0;
     let count = input.count;
     show(
+        out,
         b"-- standard input: a job of 65,536 bytes, and a byte more\n",
         &bytes[z..count],
-    );
+    )
 }
 
-fn main() {
-    files();
-    refusals();
-    many_lines();
-    largest();
-    too_large();
-    input();
+fn main(rt: HostRuntime) -> Result<()> {
+    let mut out = rt.stdout();
+    files(&mut out)?;
+    refusals(&mut out)?;
+    many_lines(&mut out)?;
+    largest(&mut out)?;
+    too_large(&mut out)?;
+    input(&mut rt.stdin(), &mut out)
 }
