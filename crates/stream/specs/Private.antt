@@ -1,7 +1,7 @@
 -- Words for the contracts of private functions; no exported contract uses them. What they tell of sizes: a number, or 0, the grown
 -- sides and the needed cells. What a row that ends in black places leaves in the cells of the row list. And stages of
 -- the column list that are worked together: their slots, and what they make of some columns.
-use Rattle.std.specs.Prelude.{◌≡◌, ℕ, zero, suc, ◌+◌, ◌*◌, ◌%◌, ◌^◌, ◌<◌, ◌≤◌, cond, ◌⊎◌, List, [], ◌∷◌, ◌++◌, length, take, drop, replicate, ◌==◌, nat_lt, slice_index, slice_index_or}
+use Rattle.std.specs.Prelude.{◌≡◌, ℕ, zero, suc, ◌+◌, ◌*◌, ◌%◌, ◌^◌, ◌<◌, ◌≤◌, cond, ◌⊎◌, List, [], ◌∷◌, ◌++◌, length, take, drop, replicate, ◌==◌, nat_lt, slice_index}
 use Rattle.spec.specs.Words.{tab, total}
 use Rattle.spec.specs.Recipe.{Recipe}
 use Rattle.spec.specs.Picture.{full_width_of, full_height_of}
@@ -92,6 +92,6 @@ pub record Rings (w k cells : ℕ) (befores oldests : List ℕ) : Type 0 where
 pub record Run (ns : List ℕ) (k : ℕ) : Type 0 where
   pub some : 0 < k
   pub inside : k ≤ length ns
-  pub one : slice_index_or ns 0 0 < 2 → k ≡ 1
-  pub twos : slice_index_or ns 0 0 ≡ 2 → (k ≤ 8) × ((s : ℕ) → s < k → slice_index ns s ≡ 2)
+  pub one : slice_index ns 0 < 2 → k ≡ 1
+  pub twos : slice_index ns 0 ≡ 2 → (k ≤ 8) × ((s : ℕ) → s < k → slice_index ns s ≡ 2)
   pub wider : 2 < slice_index ns 0 → (k ≤ 3) × ((s : ℕ) → s < k → 2 < slice_index ns s)
