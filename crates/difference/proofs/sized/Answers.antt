@@ -1,7 +1,8 @@
 -- `difference::sized` meets its contract: by the number that `planned` tells, or where that is 0 by the contract of `run`.
 -- Assumes nothing.
 use mathlib.Core.Path.{◌≡◌, sym, subst, ◌∙◌}
-use Prim.Native.Nat.{◌-◌, ◌≤◌}
+use mathlib.Core.List.{List}
+use Prim.Native.Nat.{ℕ, ◌-◌, ◌≤◌}
 use native.Mathlib.Nat.{sub-zero}
 use native.Mathlib.Omega.{arith}
 use borrow.Author.Rules.{rules}
@@ -11,10 +12,7 @@ use Rattle.spec.specs.Picture.{picture}
 use Rattle.laws.proofs.Slices.{front_lent}
 use Rattle.laws.proofs.Refusals.{written_not, written_all}
 use Rattle.difference.specs.Pairs.{BothAccepted}
-use Rattle.difference.proofs.Planning.{Accepted, first_moderate, second_moderate, plan_number, plan_accepted}
-use Rattle.difference.proofs.sized.Lts
-use Rattle.difference.proofs.sized.Reads
-use Rattle.difference.proofs.sized.Tie
+use Rattle.difference.proofs.Planning.{first_moderate, second_moderate, plan_number, plan_accepted}
 use Rattle.difference.proofs.sized.Goals as goal
 
 pub planned-plan-requires : goal.planned-plan-requires
@@ -30,32 +28,37 @@ pub returns-then-refusal-ne0 : goal.returns-then-refusal-ne0
 returns-then-refusal-ne0 c =
     written_not _ _ _ _ _ _ (plan_number _ _ _ _ _ c.requires.0 c.requires.1 c.requires.2 _ c.planned-plan.ensures) c.if-refusal-ne0.true
 
--- none of the checks holds
-accepted : (c : Lts.Else1 Tie.the-claims Reads.Pre Reads.Post) → let args = c.args in
-    Accepted args.a args.b (picture args.width args.height args.pixels.now) (length args.out.now) (length args.cells.now) c.planned-plan.result
-accepted c =
-    plan_accepted _ _ _ _ _ c.requires.0 c.requires.1 c.requires.2 _ c.planned-plan.ensures c.if-refusal-ne0.false
-
 pub slice_bounds-a_row-end : goal.slice_bounds-a_row-end
-slice_bounds-a_row-end c = omega (arith, (accepted c.before).a_most)
+slice_bounds-a_row-end c =
+    let q = c.requires in
+    let p = picture c.args.width c.args.height c.args.pixels.now in
+    let ok = plan_accepted c.args.a c.args.b p _ _ q.0 q.1 q.2 _ c.planned-plan.ensures c.if-refusal-ne0.false in
+    omega (arith, ok.a_most)
 
 pub slice_bounds-b_row-end : goal.slice_bounds-b_row-end
-slice_bounds-b_row-end c = omega (arith, (accepted c.before.before).b_most)
+slice_bounds-b_row-end c =
+    let q = c.requires in
+    let p = picture c.args.width c.args.height c.args.pixels.now in
+    let ok = plan_accepted c.args.a c.args.b p _ _ q.0 q.1 q.2 _ c.planned-plan.ensures c.if-refusal-ne0.false in
+    omega (arith, ok.b_most)
 
 pub slice_bounds-run-end : goal.slice_bounds-run-end
-slice_bounds-run-end c = omega (arith, (accepted c.before.before.before.before).enough)
+slice_bounds-run-end c =
+    let q = c.requires in
+    let p = picture c.args.width c.args.height c.args.pixels.now in
+    let ok = plan_accepted c.args.a c.args.b p _ _ q.0 q.1 q.2 _ c.planned-plan.ensures c.if-refusal-ne0.false in
+    omega (arith, ok.enough)
 
 -- the cells that are lent are the needed ones
-part-long : (c : Lts.Else1 Tie.the-claims Reads.Pre Reads.Post) → let needed = c.planned-plan.result.needed in length (take (needed - 0) c.args.cells.now) ≡ needed
-part-long c =
-    let needed = c.planned-plan.result.needed in
-    let inside : needed - 0 ≤ length c.args.cells.now = omega (arith, (accepted c).enough) in
-    length-take-le (needed - 0) c.args.cells.now inside ∙ sub-zero needed
+part-long : (needed : ℕ) (cells : List ℕ) → needed ≤ length cells → length (take (needed - 0) cells) ≡ needed
+part-long needed cells h = length-take-le (needed - 0) cells (omega arith) ∙ sub-zero needed
 
 pub run-requires : goal.run-requires
 run-requires c =
-    let ok = accepted c.before.before.before.before.before in (
-      subst (BothAccepted _ _ _ _) (sym (part-long c.before.before.before.before.before)) ok.both,
+    let q = c.requires in
+    let p = picture c.args.width c.args.height c.args.pixels.now in
+    let ok = plan_accepted c.args.a c.args.b p _ _ q.0 q.1 q.2 _ c.planned-plan.ensures c.if-refusal-ne0.false in (
+      subst (BothAccepted _ _ _ _) (sym (part-long _ c.args.cells.now ok.enough)) ok.both,
       simp length-take (omega (arith, ok.a_wide, ok.a_most)),
       simp length-take (omega (arith, ok.b_wide, ok.b_most)),
       ok.size,
@@ -64,8 +67,10 @@ run-requires c =
 pub returns : goal.returns
 returns c =
     let run = c.run in
-    let ok = accepted c.before.before.before.before.before.before.before.before.before.before.before in
-    written_all _ _ _ _ _ (plan_number _ _ _ _ _ c.requires.0 c.requires.1 c.requires.2 _ c.planned-plan.ensures ∙ c.if-refusal-ne0.false)
+    let q = c.requires in
+    let p = picture c.args.width c.args.height c.args.pixels.now in
+    let ok = plan_accepted c.args.a c.args.b p _ _ q.0 q.1 q.2 _ c.planned-plan.ensures c.if-refusal-ne0.false in
+    written_all _ _ _ _ _ (plan_number _ _ _ _ _ q.0 q.1 q.2 _ c.planned-plan.ensures ∙ c.if-refusal-ne0.false)
     _ _ run.ensures
-    (front_lent _ _ ok.both.cells run.new.cells c.args.cells.now (run.auto.cells ∙ part-long c.before.before.before.before.before.before.before.before.before.before.before))
+    (front_lent _ _ ok.both.cells run.new.cells c.args.cells.now (run.auto.cells ∙ part-long _ c.args.cells.now ok.enough))
     (search rules)

@@ -4,9 +4,6 @@ use mathlib.Core.Path.{refl, sym}
 use Prim.Native.Nat.{◌<◌}
 use native.Mathlib.Omega.{arith}
 use lib.ListN.{length}
-use Rattle.blur.proofs.rims.next_band.Lts
-use Rattle.blur.proofs.rims.next_band.Reads
-use Rattle.blur.proofs.rims.next_band.Tie
 use Rattle.blur.proofs.rims.next_band.Goals as goal
 
 pub returns-then-down-band : goal.returns-then-down-band
@@ -15,13 +12,12 @@ returns-then-down-band c = (c.requires.0, sym c.if-down-band.true)
 pub invert-requires : goal.invert-requires
 invert-requires c = (c.requires.1, c.requires.0.level, c.requires.0.room)
 
--- the middle begins inside the row
-inside : (c : Lts.Start Tie.the-claims Reads.Pre Reads.Post) → c.args.band.middle.from < length c.args.across.now
-inside c = omega (arith, c.requires.0.level.some, c.requires.0.level.inside)
-
 pub overflow_mul-across : goal.overflow_mul-across
 overflow_mul-across c =
-    record { fits = omega (arith, c.requires.1 c.args.band.middle.from (inside c.before.before.before.before.before.before.before.before.before.before.before)) }
+    -- the middle begins inside the row
+    let level = c.requires.0.level in
+    let inside : c.args.band.middle.from < length c.args.across.now = omega (arith, level.some, level.inside) in
+    record { fits = omega (arith, c.requires.1 c.args.band.middle.from inside) }
 
 pub returns : goal.returns
 returns c =

@@ -13,9 +13,6 @@ use Rattle.gray.specs.Division.{Divides}
 use Rattle.gray.proofs.Dividing.{shade_is}
 use Rattle.blur.specs.Rims.{weight_at, AtRim}
 use Rattle.blur.proofs.Parts.{rim_first, rim_next, rim_later, none_before, stored, rim_divides}
-use Rattle.blur.proofs.rims.rims.Lts
-use Rattle.blur.proofs.rims.rims.Reads
-use Rattle.blur.proofs.rims.rims.Tie
 use Rattle.blur.proofs.rims.rims.Goals as goal
 
 pub loop-k-init : goal.loop-k-init
@@ -36,13 +33,6 @@ pub overflow_mul-across : goal.overflow_mul-across
 overflow_mul-across c =
     record { fits = omega (arith, c.requires.1 c.loop-k.k c.loop-k-test.true) }
 
--- what divides there
-by-own : (c : Lts.After-divisor_with Tie.the-claims Reads.Pre Reads.Post goal.the-invariant-loop-k goal.the-decreases-loop-k) → let a = c.args in
-    Divides (weight_at a.across.now a.band.down c.loop-k.k) c.divisor_with-by.result
-by-own c =
-    let a = c.args in
-    rim_divides a.across.now a.band.down a.band.middle a.reciprocals.now c.requires.1 c.requires.0.rims c.loop-k.k c.loop-k-test.true c.loop-k.invariant.2 _ c.divisor_with-by.ensures
-
 pub loop-k-smaller : goal.loop-k-smaller
 loop-k-smaller c =
     omega (arith, c.rim_place-k-in-loop-k.ensures, rim_later c.args.band.middle c.requires.0.level.some c.loop-k.k c.loop-k.invariant.2, c.loop-k-test.true)
@@ -55,7 +45,10 @@ loop-k-preserved c =
     let below : c.loop-k.k < length a.across.now = c.loop-k-test.true in
     let sum = get_or a.sums.now c.loop-k.k 0 in
     let made = c.round_one-shade.ensures in
-    let is = shade_is _ _ (by-own c.before.before.before.before.before.before) sum (c.requires.2 c.loop-k.k below) in
+    -- what divides there
+    let own : Divides (weight_at a.across.now a.band.down c.loop-k.k) c.divisor_with-by.result =
+    rim_divides a.across.now a.band.down s a.reciprocals.now c.requires.1 c.requires.0.rims c.loop-k.k below c.loop-k.invariant.2 _ c.divisor_with-by.ensures in
+    let is = shade_is _ _ own sum (c.requires.2 c.loop-k.k below) in
     let held : SFits w64 c.round_one-shade.result.leftover = search rules in
     let next = sym c.rim_place-k-in-loop-k.ensures in (
       simp length-set c.loop-k.invariant.0,
