@@ -23,7 +23,7 @@ pub fn program() -> PathBuf {
     let path = Path::new(env!("CARGO_MANIFEST_DIR")).join("../../target/bin/boresums");
     assert!(
         path.exists(),
-        "target/bin/boresums is missing: run rt check boresums first"
+        "target/bin/boresums is missing: run tools/staticlibs first"
     );
     path
 }
