@@ -16,7 +16,7 @@ pub fn boresums() -> PathBuf {
     let path = Path::new(env!("CARGO_MANIFEST_DIR")).join("../../target/bin/boresums");
     assert!(
         path.exists(),
-        "target/bin/boresums is missing; build it first: rt check boresums"
+        "target/bin/boresums is missing; build it first: tools/staticlibs"
     );
     path
 }
