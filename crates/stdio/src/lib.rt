@@ -1,5 +1,6 @@
 // Input read to its end and output written whole. A call that was interrupted or would have to wait, and a
-// write that took nothing, is made again, a bounded number of times.
+// write that took nothing, is made again, a bounded number of times; after a call that failed others get time
+// to run before.
 #![tactic(auto)]
 
 ghost use Rattle.std.specs.Prelude.{◌≡◌, ◌↔◌, ◌<◌, ◌≤◌, ◌⊎◌, length, take, IsNone, IsSome, IsTrue};
@@ -7,6 +8,7 @@ ghost use Rattle.std.specs.IoError.{error_kind};
 ghost use Rattle.std.specs.Io.KnownBytes.{Appends, Consumes, IsAtEnd};
 
 use std::io::{Error, ErrorKind, Read, Write};
+use std::thread::yield_now;
 
 // How often a call is made while no byte moves: for some seconds.
 const TRIES: usize = 10000000;
@@ -52,6 +54,7 @@ fn read_some<R: Read>(reader: &mut R, bytes: &mut [u8]) -> Input
         if !may_pass(&error) {
             break;
         }
+        yield_now();
     }
     Input {
         count: 0,
@@ -115,6 +118,7 @@ fn write_some<W: Write>(writer: &mut W, bytes: &[u8]) -> Output
                 if !may_pass(&error) {
                     break;
                 }
+                yield_now();
             }
         }
     }
