@@ -5,6 +5,7 @@ pub mod Lists
 pub mod Slices
 pub mod Rows
 pub mod Refusals
+pub mod Results
 pub mod Sequences
 pub mod Convolution
 pub mod Kernels

@@ -1,6 +1,7 @@
 -- Document 01, "Recipe and exact sum", its second part: pictures, the grown size and the exact sum.
 use Rattle.std.specs.Prelude.{◌&&◌, cond, ℕ, suc, ◌+◌, ◌-◌, ◌*◌, ◌≤◌, leb, ltb, get_or}
 use mathlib.Core.List.{List, flatten}
+use Rattle.spec.specs.declared.Image.{Image}
 use Rattle.spec.specs.Words.{sum, tab}
 use Rattle.spec.specs.Recipe.{Recipe, kernel, order}
 
@@ -12,6 +13,10 @@ pub record Picture : Type 0 where
 
 abbrev pub picture : ℕ → ℕ → List ℕ → Picture
 picture w h xs = record { width = w; height = h; pixels = xs }
+
+-- the picture that an image holds
+abbrev pub pictured : Image → Picture
+pictured i = picture i.width i.height i.pixels.now
 
 -- Pixels are bytes, and so are greys: this is the largest.
 abbrev pub largest_gray : ℕ

@@ -1,6 +1,8 @@
 -- Document 01, "If the reader says no", and the numbers of document 02: each condition by its number, and the order in which each call
 -- asks them.
-use Rattle.std.specs.Prelude.{◌≡◌, Bool, not, ◌&&◌, ◌||◌, cond, List, [], ◌∷◌, ◌++◌, ℕ, zero, suc, ◌+◌, ◌*◌, ◌%◌, ◌^◌, leb, ltb, eqb, length, get_or, take, drop}
+use Rattle.std.specs.Prelude.{◌≡◌, Bool, not, ◌&&◌, ◌||◌, cond, Result, Ok, Err, List, [], ◌∷◌, ◌++◌, ℕ, zero, suc, ◌+◌, ◌*◌, ◌%◌, ◌^◌, leb, ltb, eqb, length, get_or, take, drop}
+use Rattle.spec.specs.declared.refusal.Refusal.{Refusal}
+use Rattle.spec.specs.declared.refusal.Refusal.TheVariants.{TooLong, ZeroWidth, TooFar, TooHeavy, BadSides, OtherPixels, OtherOutput, TooFewCells, BadState, NotDue, TooBright, ParityDiffers, ProductTooHeavy, BadFile, Outside, BadLevel}
 use Rattle.spec.specs.Words.{somewhere}
 use Rattle.spec.specs.Recipe.{Recipe, order, gain}
 use Rattle.spec.specs.Picture.{Picture, largest_gray, full_width_of, full_height_of}
@@ -97,6 +99,27 @@ outside w h i j = not (ltb i w && ltb j h)
 unfoldable pub bad_level : ℕ → Bool
 bad_level level = eqb level 0 || ltb 8 level
 
+-- ---- the numbers
+
+-- the number of each refusal
+unfoldable pub number : Refusal → ℕ
+number TooLong = 1
+number ZeroWidth = 2
+number TooFar = 3
+number TooHeavy = 4
+number BadSides = 5
+number OtherPixels = 6
+number OtherOutput = 7
+number TooFewCells = 8
+number BadState = 9
+number NotDue = 10
+number TooBright = 11
+number ParityDiffers = 12
+number ProductTooHeavy = 13
+number BadFile = 14
+number Outside = 15
+number BadLevel = 16
+
 -- ---- the answer
 
 -- a condition and its number
@@ -120,6 +143,16 @@ pub data Answer (A : Type 0) : Type 0 where
 unfoldable pub either {ℓ} : {A : Type ℓ} → ℕ → A → A → A
 either zero a b = a
 either (suc n) a b = b
+
+-- the number of a call's answer, 0 where it is accepted
+abbrev pub outcome : {A : Type 0} → Result A Refusal → ℕ
+outcome (Ok a) = 0
+outcome (Err e) = number e
+
+-- a call's answer, with what its value stands for
+abbrev pub told : {A B : Type 0} → (A → B) → Result A Refusal → Answer B
+told f (Ok a) = accepted (f a)
+told f (Err e) = refused (number e)
 
 -- the value, or the number of the first condition that holds
 unfoldable pub answer : {A : Type 0} → List Check → A → Answer A
