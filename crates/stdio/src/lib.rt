@@ -42,18 +42,15 @@ fn read_some<R: Read>(reader: &mut R, bytes: &mut [u8]) -> Result<usize>
     ensures bound { ReadsAtMost result bytes.new }
     ensures read { ReadConsumes (R.remaining reader.old) (R.remaining reader.new) result bytes.new }
 {
-    let mut error = Error::from(ErrorKind::TimedOut);
+    let mut last = Error::from(ErrorKind::TimedOut);
     for _ in 0..TRIES {
         match reader.read(bytes) {
-            Ok(count) => return Ok(count),
-            Err(e) => error = e,
-        }
-        if !may_pass(&error) {
-            break;
+            Err(error) if may_pass(&error) => last = error,
+            answer => return answer,
         }
         yield_now();
     }
-    Err(error)
+    Err(last)
 }
 
 // Reads until the input ends, `bytes` is full or a read fails.
@@ -95,15 +92,11 @@ fn write_some<W: Write>(writer: &mut W, bytes: &[u8]) -> Result<usize>
     for _ in 0..TRIES {
         match writer.write(bytes) {
             Ok(0) => {}
-            Ok(taken) => return Ok(taken),
-            Err(error) => {
-                let goes_on = may_pass(&error);
+            Err(error) if may_pass(&error) => {
                 last = Err(error);
-                if !goes_on {
-                    break;
-                }
                 yield_now();
             }
+            answer => return answer,
         }
     }
     last
