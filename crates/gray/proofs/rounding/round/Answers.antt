@@ -6,7 +6,7 @@ use Rattle.spec.specs.Recipe.{Recipe, gain}
 use Rattle.spec.specs.Picture.{largest_gray}
 use Rattle.spec.specs.Refusals.{first, round_checks, too_bright}
 use Rattle.filter.specs.declared.checks.Measures.{Measures}
-use Rattle.filter.proofs.Refusal.{Known, known, measured_refused}
+use Rattle.filter.proofs.Measuring.{Known, known, measured_refused}
 use Rattle.gray.specs.declared.rounding.Divisor.{Divisor}
 use Rattle.gray.specs.Division.{divisor, Divides}
 use Rattle.gray.specs.Rounded.{checks}
