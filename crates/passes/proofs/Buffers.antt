@@ -1,92 +1,114 @@
 -- The two buffers that passes go between, and the widths that are left to do.
 -- Assumes nothing.
 use mathlib.Core.Path.{◌≡◌, refl, sym, ap, ◌∙◌}
-use mathlib.Core.Bool.{Bool, true, false, not, cond}
+use mathlib.Core.Bool.{Bool, true, false, cond}
 use mathlib.Core.List.{List, [], ◌∷◌, ◌++◌}
-use Prim.Native.Nat.{ℕ, suc, ◌≤◌, ◌<◌}
+use Prim.Native.Nat.{ℕ, ◌+◌, ◌≤◌, ◌<◌}
 use native.Mathlib.Nat.{le_trans, le_of_eq, mul_comm}
+use native.Mathlib.Numerals.{add-one}
 use native.Mathlib.Omega.{arith}
 use lib.Dec.{eqb}
-use lib.ListN.{length, take, drop, take-append-drop, drop_of_length-le}
-use Rattle.spec.specs.declared.Cascade.{Cascade}
+use lib.ListN.{length, get_or, take, drop, take-append-drop}
+use lib.Seq.{drop-cons, take_all}
 use Rattle.spec.specs.Words.{product}
-use Rattle.spec.specs.Recipe.{Recipe, widths, weight, joined}
+use Rattle.spec.specs.Recipe.{Recipe, weight, joined}
 use Rattle.laws.proofs.Lists.{factor_pos, product_append}
 use Rattle.laws.proofs.Kernels.{at}
 use Rattle.laws.proofs.Cascades.{spread, cascaded, cascaded_agree, cascaded_grows}
-use Rattle.filter.proofs.Widths.{length_widths}
-use Rattle.passes.specs.Steps.{Below, Small, present, turned, turned_by, turned_all}
+use Rattle.passes.specs.declared.cascades.Buffer.{Buffer}
+use Rattle.passes.specs.declared.cascades.Buffer.TheVariants.{Out, Work}
+use Rattle.passes.specs.declared.cascades.Buffers.{Buffers}
+use Rattle.passes.specs.Steps.{Below, Small}
+use Rattle.passes.specs.Buffers.{other, turned, turned_by, turned_all, present, held, Paired, SameBuffers}
 
-not_not : (b : Bool) → not (not b) ≡ b
-not_not true = refl
-not_not false = refl
+other_twice : (b : Buffer) → other (other b) ≡ b
+other_twice Out = refl
+other_twice Work = refl
 
 -- a width twice ends where it began
-turned_twice : (n : ℕ) (b : Bool) → turned n (turned n b) ≡ b
+turned_twice : (n : ℕ) (b : Buffer) → turned n (turned n b) ≡ b
 unfolding turned
 turned_twice n b = go (eqb n 1)
   where
-    go : (t : Bool) → cond t (cond t b (not b)) (not (cond t b (not b))) ≡ b
+    go : (t : Bool) → cond t (cond t b (other b)) (other (cond t b (other b))) ≡ b
     go true = refl
-    go false = not_not b
+    go false = other_twice b
 
 -- the buffers may be exchanged before a width or after it
-turned_not : (n : ℕ) (b : Bool) → turned n (not b) ≡ not (turned n b)
+turned_other : (n : ℕ) (b : Buffer) → turned n (other b) ≡ other (turned n b)
 unfolding turned
-turned_not n b = go (eqb n 1)
+turned_other n b = go (eqb n 1)
   where
-    go : (t : Bool) → cond t (not b) (not (not b)) ≡ not (cond t b (not b))
+    go : (t : Bool) → cond t (other b) (other (other b)) ≡ other (cond t b (other b))
     go true = refl
     go false = refl
 
-turned_by_not : (ns : List ℕ) (b : Bool) → turned_by ns (not b) ≡ not (turned_by ns b)
+turned_by_other : (ns : List ℕ) (b : Buffer) → turned_by ns (other b) ≡ other (turned_by ns b)
 unfolding turned_by
-turned_by_not [] b = refl
-turned_by_not (n ∷ ns) b = ap (turned_by ns) (turned_not n b) ∙ turned_by_not ns (turned n b)
+turned_by_other [] b = refl
+turned_by_other (n ∷ ns) b = ap (turned_by ns) (turned_other n b) ∙ turned_by_other ns (turned n b)
 
-turned_by_turned : (ns : List ℕ) (n : ℕ) (b : Bool) → turned_by ns (turned n b) ≡ turned n (turned_by ns b)
+turned_by_turned : (ns : List ℕ) (n : ℕ) (b : Buffer) → turned_by ns (turned n b) ≡ turned n (turned_by ns b)
 unfolding turned
 turned_by_turned ns n b = go (eqb n 1)
   where
-    go : (t : Bool) → turned_by ns (cond t b (not b)) ≡ cond t (turned_by ns b) (not (turned_by ns b))
+    go : (t : Bool) → turned_by ns (cond t b (other b)) ≡ cond t (turned_by ns b) (other (turned_by ns b))
     go true = refl
-    go false = turned_by_not ns b
+    go false = turned_by_other ns b
 
 -- a list of widths twice ends where it began
-pub turned_by_twice : (ns : List ℕ) (b : Bool) → turned_by ns (turned_by ns b) ≡ b
+pub turned_by_twice : (ns : List ℕ) (b : Buffer) → turned_by ns (turned_by ns b) ≡ b
 unfolding turned_by
 turned_by_twice [] b = refl
 turned_by_twice (n ∷ ns) b =
     ap (turned_by ns) (sym (turned_by_turned ns n (turned n b)) ∙ ap (turned_by ns) (turned_twice n b)) ∙ turned_by_twice ns b
 
 -- widths in two lists, one after the other and in either order, and so of two recipes
-turned_by_append : (ns ms : List ℕ) (b : Bool) → turned_by (ns ++ ms) b ≡ turned_by ms (turned_by ns b)
+turned_by_append : (ns ms : List ℕ) (b : Buffer) → turned_by (ns ++ ms) b ≡ turned_by ms (turned_by ns b)
 unfolding turned_by
 turned_by_append [] ms b = refl
 turned_by_append (n ∷ ns) ms b = turned_by_append ns ms (turned n b)
 
-turned_by_comm : (ns ms : List ℕ) (b : Bool) → turned_by ns (turned_by ms b) ≡ turned_by ms (turned_by ns b)
+turned_by_comm : (ns ms : List ℕ) (b : Buffer) → turned_by ns (turned_by ms b) ≡ turned_by ms (turned_by ns b)
 unfolding turned_by
 turned_by_comm [] ms b = refl
 turned_by_comm (n ∷ ns) ms b = ap (turned_by ns) (sym (turned_by_turned ms n b)) ∙ turned_by_comm ns ms (turned n b)
 
-pub turned_joined : (r s : Recipe) (b : Bool) → turned_all s (turned_all r b) ≡ turned_all (joined r s) b
+pub turned_joined : (r s : Recipe) (b : Buffer) → turned_all s (turned_all r b) ≡ turned_all (joined r s) b
 unfolding joined
 turned_joined r s b =
     ap (turned_by s.columns) (turned_by_comm s.rows r.columns (turned_by r.rows b))
     ∙ sym (turned_by_append r.columns s.columns (turned_by s.rows (turned_by r.rows b)))
     ∙ ap (turned_by (r.columns ++ s.columns)) (sym (turned_by_append r.rows s.rows b))
 
--- no widths are left past the count
-pub widths_past : (c : Cascade) (i : ℕ) → c.count ≤ i → drop i (widths c) ≡ []
-widths_past c i h =
-    let g : length (widths c) ≤ i = omega (arith, length_widths c) in
-    drop_of_length-le (widths c) g
-
 -- the picture is as long as each buffer
-pub length_present : (b : Bool) (out work : List ℕ) → length work ≡ length out → length (present b out work) ≡ length out
-length_present true out work e = refl
-length_present false out work e = e
+pub length_held : (b : Buffers) → Paired b → length (held b) ≡ length b.out.now
+length_held b e = go b.holder
+  where
+    go : (h : Buffer) → length (present h b.out.now b.work.now) ≡ length b.out.now
+    go Out = refl
+    go Work = e
+
+-- and so it stays, through one step and another
+pub still_paired : (old new : Buffers) → SameBuffers old new → Paired old → Paired new
+still_paired old new s e = s.work_length ∙ e ∙ sym s.out_length
+
+pub same_twice : (a b c : Buffers) → SameBuffers a b → SameBuffers b c → SameBuffers a c
+same_twice a b c s t =
+    record {
+      out = t.out ∙ s.out;
+      work = t.work ∙ s.work;
+      out_length = t.out_length ∙ s.out_length;
+      work_length = t.work_length ∙ s.work_length;
+    }
+
+-- an accepted list is read whole
+pub all_boxes : (ns : List ℕ) → length ns ≤ 48 → take 48 ns ≡ ns
+all_boxes ns h = take_all 48 ns h
+
+-- the next width of a list
+pub next_width : (ns : List ℕ) (i : ℕ) → i < length ns → drop i ns ≡ get_or ns i 0 ∷ drop (i + 1) ns
+next_width ns i h = rw (add-one, drop-cons ns i 0) refl
 
 -- Widths in turn, with a spread s: the first i are done, and those that are left lead from the list now to what all lead to from first.
 module _ (s : ℕ) (ns : List ℕ) (size : ℕ) (first : List ℕ) where
@@ -94,12 +116,12 @@ module _ (s : ℕ) (ns : List ℕ) (size : ℕ) (first : List ℕ) where
   Left i now = (k : ℕ) → k < size → cascaded s (drop i ns) (at now) k ≡ cascaded s ns (at first) k
 
   -- the next width
-  module _ (i n : ℕ) (now : List ℕ) (e : drop i ns ≡ n ∷ drop (suc i) ns) (left : Left i now) where
-    step : (k : ℕ) → k < size → cascaded s (drop (suc i) ns) (spread s n (at now)) k ≡ cascaded s ns (at first) k
+  module _ (i n : ℕ) (now : List ℕ) (e : drop i ns ≡ n ∷ drop (i + 1) ns) (left : Left i now) where
+    step : (k : ℕ) → k < size → cascaded s (drop (i + 1) ns) (spread s n (at now)) k ≡ cascaded s ns (at first) k
     unfolding cascaded
     step k h = ap (λ ws. cascaded s ws (at now) k) (sym e) ∙ left k h
 
-    positive : 0 < weight ns → 0 < product (n ∷ drop (suc i) ns)
+    positive : 0 < weight ns → 0 < product (n ∷ drop (i + 1) ns)
     unfolding weight
     positive h =
         le_trans (factor_pos (product (take i ns)) (product (drop i ns))
@@ -109,16 +131,16 @@ module _ (s : ℕ) (ns : List ℕ) (size : ℕ) (first : List ℕ) where
     -- it is not 0, and its sums fit
     pub width_pos : 0 < weight ns → 0 < n
     unfolding weight product
-    width_pos h = factor_pos (product (drop (suc i) ns)) n (le_trans (positive h) (le_of_eq (mul_comm n (product (drop (suc i) ns)))))
+    width_pos h = factor_pos (product (drop (i + 1) ns)) n (le_trans (positive h) (le_of_eq (mul_comm n (product (drop (i + 1) ns)))))
 
     pub width_small : 0 < weight ns → Small size (cascaded s ns (at first)) → Small size (spread s n (at now))
     unfolding weight product
     width_small h small k l =
         le_trans
-        (cascaded_grows s (drop (suc i) ns) (spread s n (at now)) k (factor_pos n (product (drop (suc i) ns)) (positive h)))
+        (cascaded_grows s (drop (i + 1) ns) (spread s n (at now)) k (factor_pos n (product (drop (i + 1) ns)) (positive h)))
         (le_trans (le_of_eq (step k l)) (small k l))
 
     -- after its pass
-    pub left_more : (new : List ℕ) → Below size (spread s n (at now)) new → Left (suc i) new
+    pub left_more : (new : List ℕ) → Below size (spread s n (at now)) new → Left (i + 1) new
     left_more new b k h =
-        cascaded_agree s (drop (suc i) ns) (at new) (spread s n (at now)) k (λ j l. b j (omega arith)) ∙ step k h
+        cascaded_agree s (drop (i + 1) ns) (at new) (spread s n (at now)) k (λ j l. b j (omega arith)) ∙ step k h

@@ -6,7 +6,7 @@
 
 ghost use Rattle.std.specs.Prelude.{◌≡◌, List, ℕ, length};
 ghost use Rattle.spec.specs.Recipe.{recipe};
-ghost use Rattle.spec.specs.Picture.{picture, full_width_of, full_sides, full};
+ghost use Rattle.spec.specs.Picture.{picture, pictured, full_width_of, full_sides, full};
 ghost use Rattle.spec.specs.Refusals.{answer, full_size, pass_checks};
 ghost use Rattle.laws.proofs.Refusals.{AcceptedPicture};
 ghost use Rattle.filter.specs.Answers.{size_told};
@@ -18,33 +18,27 @@ mod columns;
 mod grown;
 mod rows;
 
-use crate::cascades::{begins_in_out, carry};
-use crate::grown::place;
+use crate::cascades::{Buffers, begins_in};
 pub use climbing::{Axes, ladder};
 use filter::FullSize;
-use spec::Filter;
+use spec::{Filter, Image};
 
 // The passes of an accepted recipe over an accepted picture. They go from one buffer to the other and
 // back, and begin so that the last ends in `out`.
-fn run(
-    filter: Filter,
-    width: usize,
-    height: usize,
-    full_width: usize,
-    pixels: &[u8],
-    out: &mut [u64],
-    work: &mut [u64],
-)
-    requires { let p = picture width height pixels.now in
+fn run(filter: Filter, image: Image, full_width: usize, out: &mut [u64], work: &mut [u64])
+    requires { let p = pictured image in
         AcceptedPicture (recipe filter) p
-        × (full_width ≡ full_width_of (recipe filter) width)
+        × (full_width ≡ full_width_of (recipe filter) image.width)
         × (length out.old ≡ full_size (recipe filter) p) × (length work.old ≡ length out.old) }
-    ensures { let p = picture width height pixels.now in
-        out.new ≡ full (recipe filter) p }
+    ensures { out.new ≡ full (recipe filter) (pictured image.entry) }
 {
-    let in_out = begins_in_out(filter);
-    place(width, height, full_width, in_out, pixels, out, work);
-    carry(filter, full_width, in_out, out, work);
+    let mut buffers = Buffers {
+        out,
+        work,
+        holder: begins_in(filter),
+    };
+    buffers.place(image, full_width);
+    buffers.carry(filter, full_width);
 }
 
 // The grown sides of a picture, where its slices have these lengths: refused by 1 to 8.
@@ -103,16 +97,12 @@ pub fn passes(
             width: full_width,
             ..
         } => {
-            let z: usize = 0;
-            run(
-                filter,
+            let image = Image {
                 width,
                 height,
-                full_width,
                 pixels,
-                out,
-                &mut cells[z..size],
-            );
+            };
+            run(filter, image, full_width, out, &mut cells[..size]);
             0
         }
     }
