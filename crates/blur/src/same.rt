@@ -5,7 +5,7 @@ ghost use Rattle.spec.specs.Recipe.{recipe};
 ghost use Rattle.spec.specs.Picture.{picture, full_width_of};
 ghost use Rattle.spec.specs.Gray.{places, same_gray, same_leftover};
 ghost use Rattle.spec.specs.Refusals.{first, size_checks, picture_checks, full_size};
-ghost use Rattle.filter.proofs.Refusal.{Known};
+ghost use Rattle.filter.proofs.Measuring.{Known};
 ghost use Rattle.rows.specs.Streaming.{picture_of};
 ghost use Rattle.rows.specs.Taking.{Taken};
 ghost use Rattle.filter.specs.Axis.{axis_weights};

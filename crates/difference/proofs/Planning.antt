@@ -10,7 +10,7 @@ use Rattle.spec.specs.Recipe.{Recipe, recipe, gain}
 use Rattle.spec.specs.Picture.{Picture, full_width_of}
 use Rattle.spec.specs.Refusals.{Check, check, first, other_pixels, other_output, too_few_cells, parity_differs, product_too_heavy, full_size, recipe_checks, size_checks, picture_checks, difference_checks}
 use Rattle.laws.proofs.Refusals.{first_front, first_rest, first_none, recipe_numbered, size_numbered, same_length_so, is_sized, picture_sides, picture_passed, picture_other}
-use Rattle.filter.proofs.Refusal.{Known}
+use Rattle.filter.proofs.Measuring.{Known}
 use Rattle.difference.specs.declared.Operand.{Operand}
 use Rattle.difference.specs.declared.Given.{Given}
 use Rattle.difference.specs.declared.Plan.{Plan}

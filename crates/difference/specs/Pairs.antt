@@ -5,7 +5,7 @@ use Rattle.spec.specs.Picture.{Picture}
 use Rattle.spec.specs.Refusals as Refusals
 use Rattle.spec.specs.Refusals.{Check, check, odd_apart, other_pixels, other_output, too_few_cells, picture_checks, full_size}
 use Rattle.filter.specs.declared.checks.Measures.{Measures}
-use Rattle.filter.proofs.Refusal.{Known}
+use Rattle.filter.proofs.Measuring.{Known}
 use Rattle.difference.specs.declared.Pair.{Pair}
 use Rattle.difference.specs.declared.Weights.{Weights}
 use Rattle.difference.specs.declared.Places.{Places}

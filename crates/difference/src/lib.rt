@@ -6,7 +6,7 @@ ghost use Rattle.spec.specs.Words.{tab};
 ghost use Rattle.spec.specs.Recipe.{recipe};
 ghost use Rattle.spec.specs.Picture.{picture, largest_gray, full_width_of, full_height_of};
 ghost use Rattle.spec.specs.Refusals.{first, size_checks, start_checks};
-ghost use Rattle.filter.proofs.Refusal.{Known};
+ghost use Rattle.filter.proofs.Measuring.{Known};
 ghost use Rattle.spec.specs.Gray.{nearest_difference, places as places_of, difference as differenceOf};
 ghost use Rattle.rows.specs.Streaming.{picture_of, Streamed, Due, Came};
 ghost use Rattle.gray.specs.Division.{Divides, Bounded};

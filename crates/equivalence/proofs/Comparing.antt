@@ -8,7 +8,7 @@ use Rattle.spec.specs.Recipe.{Recipe, recipe, widths}
 use Rattle.spec.specs.Same.{same_counts, equivalent}
 use Rattle.spec.specs.Refusals.{first, accepted, answer, recipe_checks, compare_checks}
 use Rattle.laws.proofs.Refusals.{first_front, first_rest, none_both, answer_accepted, is_accepted, recipe_numbered}
-use Rattle.filter.proofs.Refusal.{accepted_counts}
+use Rattle.filter.proofs.Measuring.{accepted_counts}
 
 module _ (a b : Recipe) where
   -- refused by the first, or decided by the second

@@ -11,17 +11,20 @@ use lib.ListN.{length, get_or-eq_default}
 use Rattle.spec.specs.Words.{sum, tab}
 use Rattle.spec.specs.Recipe.{kernel, order}
 use Rattle.spec.specs.Gray.{inside_weight}
-use Rattle.spec.specs.Refusals.{check, first, other_output, bad_side, alone, recipe_checks, cell_checks}
+use Rattle.std.specs.Prelude.{Ok, Err}
+use Rattle.spec.specs.declared.refusal.Refusal.{Refusal}
+use Rattle.spec.specs.Refusals.{check, first, answer, told, number, other_output, bad_side, alone, recipe_checks, cell_checks}
 use Rattle.laws.proofs.Sums.{sum_front}
 use Rattle.laws.proofs.Lists.{length_tab, get_d_tab, tab_agree}
 use Rattle.laws.proofs.Sequences.{behind, boxed, running, behind_within, behind_before, boxed_running}
 use Rattle.laws.proofs.Kernels.{at}
 use Rattle.laws.proofs.Refusals.{first_front, first_rest, recipe_numbered, numbered_more, lent_refused, lent_accepted, by_output, after_output}
+use Rattle.laws.proofs.Results.{number_not_zero}
 use Rattle.laws.proofs.Inside.{inside_alone, axis_box}
 use Rattle.filter.specs.declared.checks.Measures.{Measures}
 use Rattle.filter.specs.Measured.{measured}
 use Rattle.filter.specs.Axis.{axis_checks, AxisFilled}
-use Rattle.filter.proofs.Refusal.{measured_refused, measured_then}
+use Rattle.filter.proofs.Measuring.{measured_refused, measured_then}
 use Rattle.filter.proofs.Filling.{list_weight}
 
 -- ---- a box on coefficients
@@ -72,19 +75,22 @@ module _ (ks totals : List ℕ) (some : 0 < length ks) (is : totals ≡ tab (len
 
 -- ---- the answer
 
-module _ (ns : List ℕ) (side : ℕ) (old : List ℕ) (m : Measures) (s : m ≡ measured (alone ns)) where
+module _ (ns : List ℕ) (side : ℕ) (old : List ℕ) where
   refused_by_lem : (n : ℕ) → first (axis_checks ns side (length old)) ≡ n → (n ≡ 0 → ⊥) → AxisFilled ns side old n old
   refused_by_lem n e h = record { answer = sym e; slice = sym (lent_refused _ _ old n e h) }
 
   -- by 1 to 4
-  pub axis_refused : (m.refusal ≡ 0 → ⊥) → AxisFilled ns side old m.refusal old
+  pub axis_refused : (e : Refusal) → told (λ (x : Measures). x) (Err e) ≡ answer (recipe_checks (alone ns)) (measured (alone ns))
+      → AxisFilled ns side old (number e) old
   unfolding axis_checks cell_checks
-  axis_refused h = refused_by_lem m.refusal (first_front (cell_checks (alone ns) side) _ _ (measured_refused (alone ns) m s _ h) h) h
+  axis_refused e s =
+      let h = number_not_zero e in
+      refused_by_lem (number e) (first_front (cell_checks (alone ns) side) _ _ (measured_refused (alone ns) e s _) h) h
 
-  module _ (z : m.refusal ≡ 0) where
+  module _ (m : Measures) (s : told (λ (x : Measures). x) (Ok m) ≡ answer (recipe_checks (alone ns)) (measured (alone ns))) where
     five : first (cell_checks (alone ns) side) ≡ cond (bad_side side) 5 0
     unfolding cell_checks
-    five = measured_then (alone ns) m s z (bad_side side) 5
+    five = measured_then (alone ns) m s (bad_side side) 5
 
     pub axis_side : bad_side side ≡ true → AxisFilled ns side old 5 old
     unfolding axis_checks
@@ -111,6 +117,6 @@ module _ (ns : List ℕ) (side : ℕ) (old : List ℕ) (m : Measures) (s : m ≡
                 p
                 ∙ ap (λ n. tab n (λ k. boxed n (at (kernel ns)) (k + order ns / 2))) l
                 ∙ tab_agree side (λ k. boxed side (at (kernel ns)) (k + order ns / 2)) (λ k. inside_weight (alone ns) side 1 k 0)
-                (λ k h. sym (inside_alone ns side k ∙ axis_box ns (list_weight ns old m s z).0 side (k + order ns / 2)))
+                (λ k h. sym (inside_alone ns side k ∙ axis_box ns (list_weight ns old m s).0 side (k + order ns / 2)))
                 ∙ sym (lent_accepted _ _ old e);
           }

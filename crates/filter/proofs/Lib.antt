@@ -1,4 +1,4 @@
-pub mod Refusal
+pub mod Measuring
 pub mod Widths
 pub mod Filling
 pub mod Axes

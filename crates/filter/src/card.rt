@@ -6,11 +6,10 @@ ghost use Rattle.spec.specs.Refusals.{answer, recipe_checks};
 ghost use Rattle.filter.specs.Answers.{card_told};
 
 use crate::checks::measure;
-use crate::lists::width_at;
-use spec::{Cascade, Filter};
+use spec::{Cascade, Filter, Refusal};
 
 // A recipe's weight, its reaches, and the variance on each axis (document 01: the scale card).
-#[derive(Drop)]
+#[derive(Clone, Copy)]
 pub struct Scale {
     pub gain: u64,
     pub row_order: usize,
@@ -19,22 +18,12 @@ pub struct Scale {
     pub column_variance: f64,
 }
 
-// The scale card, or the number of the refusal.
-#[derive(Drop)]
-pub enum Card {
-    Of(Scale),
-    Refused(u8),
-}
-
 // n * n - 1; 0 for a width of 0, which no accepted recipe has.
 fn square(n: u8) -> u64
     ensures { (result ≡ box_square n) × (result ≤ 65024) }
 {
-    if n == 0 {
-        return 0;
-    }
-    let m = n as u64;
-    m * m - 1
+    let m = u64::from(n);
+    (m * m).saturating_sub(1)
 }
 
 // The sum of n * n - 1 over a cascade.
@@ -42,12 +31,9 @@ fn squares(list: Cascade) -> u64
     requires { list.count ≤ 48 }
     ensures { (result ≡ squaresOf (widths list)) × (result ≤ 65024 * 48) }
 {
-    let count = list.count as usize;
-    let mut sum: u64 = 0;
-    let mut i: usize = 0;
-    while i < count {
-        sum += square(width_at(list.count, &list.widths, i));
-        i += 1;
+    let mut sum = 0;
+    for &n in list.boxes() {
+        sum += square(n);
     }
     sum
 }
@@ -69,15 +55,11 @@ fn variance(list: Cascade) -> f64
 }
 
 // The scale card of a recipe: refused by 1 to 4.
-pub fn moments(filter: Filter) -> Card
+pub fn moments(filter: Filter) -> Result<Scale, Refusal>
     ensures { card_told result ≡ answer (recipe_checks (recipe filter)) (scale_card (recipe filter)) }
 {
-    let m = measure(filter);
-    let number = m.refusal;
-    if number != 0 {
-        return Card::Refused(number);
-    }
-    Card::Of(Scale {
+    let m = measure(filter)?;
+    Ok(Scale {
         gain: m.gain,
         row_order: m.row_order,
         column_order: m.column_order,

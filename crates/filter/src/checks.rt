@@ -1,36 +1,22 @@
 // The checks of a recipe, with its weight and its reaches.
 ghost use Rattle.std.specs.Prelude.{◌≡◌, ◌||◌, [], ◌∷◌, ◌+◌, ◌*◌, ◌^◌, ◌≤◌, min, eqb, ltb};
 ghost use Rattle.spec.specs.Recipe.{widths, recipe, box_order, order, weight};
-ghost use Rattle.spec.specs.Refusals.{check, first, recipe_checks};
-ghost use Rattle.filter.specs.Measured.{measured, refused_by};
+ghost use Rattle.spec.specs.Refusals.{check, first, recipe_checks, answer, told, outcome};
+ghost use Rattle.filter.specs.Measured.{measured};
 
-use crate::lists::width_at;
-use spec::{Cascade, Filter};
+use spec::{Cascade, Filter, Refusal};
 
 // The largest weight, and what stands for every weight above it.
 const HEAVIEST: u64 = 17_592_186_044_416;
 
 const TOO_HEAVY: u64 = 17_592_186_044_417;
 
-// A recipe's refusal, 0 where it is accepted; its weight and its reaches, all 0 on a refusal.
+// A recipe's weight and its reaches.
 #[derive(Clone, Copy)]
 pub struct Measures {
-    pub refusal: u8,
     pub gain: u64,
     pub row_order: usize,
     pub column_order: usize,
-}
-
-// The answer to a recipe that is refused.
-fn refused(number: u8) -> Measures
-    ensures { result ≡ refused_by number }
-{
-    Measures {
-        refusal: number,
-        gain: 0,
-        row_order: 0,
-        column_order: 0,
-    }
 }
 
 // The reach of one cascade, and a weight times that of the cascade, held at TOO_HEAVY.
@@ -44,7 +30,7 @@ struct Extent {
 fn box_order(n: u8) -> usize
     ensures { (result ≡ box_order n) × (result ≤ 254) }
 {
-    if n == 0 { 0 } else { n as usize - 1 }
+    usize::from(n.saturating_sub(1))
 }
 
 // A weight times a width, held at TOO_HEAVY.
@@ -52,76 +38,57 @@ fn times(gain: u64, n: u8) -> u64
     requires { gain ≤ 2 ^ 44 + 1 }
     ensures { result ≡ min (gain * n) (2 ^ 44 + 1) }
 {
-    let product = gain * (n as u64);
-    if product < TOO_HEAVY {
-        product
-    } else {
-        TOO_HEAVY
-    }
+    (gain * u64::from(n)).min(TOO_HEAVY)
 }
 
 fn survey(list: Cascade, gain: u64) -> Extent
     requires { (list.count ≤ 48) × (gain ≤ 2 ^ 44 + 1) }
     ensures { (result.order ≡ order (widths list)) × (result.gain ≡ min (gain * weight (widths list)) (2 ^ 44 + 1)) }
 {
-    let count = list.count as usize;
     let mut found = Extent { order: 0, gain };
-    let mut i: usize = 0;
-    while i < count {
-        let n = width_at(list.count, &list.widths, i);
+    for &n in list.boxes() {
         found.order += box_order(n);
         found.gain = times(found.gain, n);
-        i += 1;
     }
     found
 }
 
-// The number of the first of 2 to 4 that holds, from the two reaches and the weight held at TOO_HEAVY.
-fn verdict(row_order: usize, column_order: usize, gain: u64) -> u8
-    ensures { result ≡ first (check (eqb gain 0) 2 ∷ check (ltb 255 row_order || ltb 255 column_order) 3 ∷ check (ltb (2 ^ 44) gain) 4 ∷ []) }
+// The first of 2 to 4 that holds, from the two reaches and the weight held at TOO_HEAVY.
+fn verdict(row_order: usize, column_order: usize, gain: u64) -> Result<(), Refusal>
+    ensures { outcome result ≡ first (check (eqb gain 0) 2 ∷ check (ltb 255 row_order || ltb 255 column_order) 3 ∷ check (ltb (2 ^ 44) gain) 4 ∷ []) }
 {
     if gain == 0 {
-        2
-    } else if 255 < row_order {
-        3
-    } else if 255 < column_order {
-        3
+        Err(Refusal::ZeroWidth)
+    } else if 255 < row_order || 255 < column_order {
+        Err(Refusal::TooFar)
     } else if HEAVIEST < gain {
-        4
+        Err(Refusal::TooHeavy)
     } else {
-        0
+        Ok(())
     }
 }
 
-// The refusal, the weight and the reaches of a recipe.
-pub fn measure(filter: Filter) -> Measures
-    ensures { result ≡ measured (recipe filter) }
+// The weight and the reaches of a recipe: refused by 1 to 4.
+pub fn measure(filter: Filter) -> Result<Measures, Refusal>
+    ensures { told (λ m. m) result ≡ answer (recipe_checks (recipe filter)) (measured (recipe filter)) }
 {
-    let rows = filter.rows;
-    let columns = filter.columns;
-    if 48 < rows.count {
-        return refused(1);
+    if 48 < filter.rows.count || 48 < filter.columns.count {
+        return Err(Refusal::TooLong);
     }
-    if 48 < columns.count {
-        return refused(1);
-    }
-    let across = survey(rows, 1);
-    let both = survey(columns, across.gain);
-    let number = verdict(across.order, both.order, both.gain);
-    if number != 0 {
-        return refused(number);
-    }
-    Measures {
-        refusal: 0,
+    let across = survey(filter.rows, 1);
+    let both = survey(filter.columns, across.gain);
+    verdict(across.order, both.order, both.gain)?;
+    Ok(Measures {
         gain: both.gain,
         row_order: across.order,
         column_order: both.order,
-    }
+    })
 }
 
-// 0, or the number of the first of 1 to 4 that applies to a recipe.
-pub fn check(filter: Filter) -> u8
-    ensures { result ≡ first (recipe_checks (recipe filter)) }
+// Whether a recipe is accepted: refused by 1 to 4.
+pub fn check(filter: Filter) -> Result<(), Refusal>
+    ensures { outcome result ≡ first (recipe_checks (recipe filter)) }
 {
-    measure(filter).refusal
+    measure(filter)?;
+    Ok(())
 }

@@ -5,12 +5,12 @@ ghost use Rattle.spec.specs.Words.{sum, tab};
 ghost use Rattle.spec.specs.Recipe.{widths, weight, kernel as kernelOf};
 ghost use Rattle.laws.proofs.Kernels.{at};
 ghost use Rattle.laws.proofs.Sequences.{running, behind};
+ghost use Rattle.spec.specs.Refusals.{outcome};
 ghost use Rattle.filter.specs.Coefficients.{KernelFilled};
 
 use crate::checks::measure;
-use crate::lists::width_at;
-use crate::zeros::no_filter;
-use spec::{Cascade, Filter};
+use crate::zeros::alone;
+use spec::{Cascade, Refusal};
 
 // The single coefficient 1.
 fn impulse(out: &mut [u64])
@@ -45,44 +45,27 @@ fn difference(out: &mut [u64], n: usize)
     }
 }
 
-// A width as a number of places.
-fn places(n: u8) -> usize
-    ensures { result ≡ n }
-{
-    n as usize
-}
-
 // The coefficients of a cascade, box by box, as far as the slice goes.
 pub(crate) fn convolve(list: Cascade, out: &mut [u64])
     requires { (list.count ≤ 48) × (0 < weight (widths list)) × (weight (widths list) ≤ 2 ^ 44) }
     ensures { out.new ≡ tab (length out.old) (at (kernelOf (widths list))) }
 {
     impulse(out);
-    let mut i = list.count as usize;
-    while 0 < i {
-        i -= 1;
+    for &n in list.boxes() {
         accumulate(out);
-        difference(out, places(width_at(list.count, &list.widths, i)));
+        difference(out, usize::from(n));
     }
 }
 
 // The coefficients of a cascade into a slice of exactly its reach and one: refused by 1 to 4, for the
 // cascade as a recipe of its own, and by 7.
-pub fn kernel(list: Cascade, out: &mut [u64]) -> u8
-    ensures { KernelFilled (widths list) out.old result out.new }
+pub fn kernel(list: Cascade, out: &mut [u64]) -> Result<(), Refusal>
+    ensures { KernelFilled (widths list) out.old (outcome result) out.new }
 {
-    let columns = no_filter().columns;
-    let m = measure(Filter {
-        rows: list,
-        columns,
-    });
-    let number = m.refusal;
-    if number != 0 {
-        return number;
-    }
+    let m = measure(alone(list))?;
     if out.len() != m.row_order + 1 {
-        return 7;
+        return Err(Refusal::OtherOutput);
     }
     convolve(list, out);
-    0
+    Ok(())
 }

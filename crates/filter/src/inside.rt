@@ -5,13 +5,14 @@ ghost use Rattle.spec.specs.Words.{sum, tab};
 ghost use Rattle.spec.specs.Recipe.{widths, order, weight, kernel as kernelOf};
 ghost use Rattle.laws.proofs.Kernels.{at};
 ghost use Rattle.laws.proofs.Sequences.{boxed};
+ghost use Rattle.spec.specs.Refusals.{outcome};
 ghost use Rattle.filter.specs.Axis.{AxisFilled};
 
 use crate::checks::measure;
 use crate::coefficients::{accumulate, convolve};
 use crate::sizes::bad_side;
-use crate::zeros::no_filter;
-use spec::{Cascade, Filter};
+use crate::zeros::alone;
+use spec::{Cascade, Refusal};
 
 // A box of the line's length on the coefficients, at each place of the line: a running total, and the total
 // that many places earlier taken away. The coefficients give way to their running totals.
@@ -46,27 +47,18 @@ fn axis_sums(list: Cascade, kernel: &mut [u64], out: &mut [u64])
 
 // The inside weight of a cascade at each place of a line, which the product of both axes takes to that of a
 // picture: refused by 1 to 4, for the cascade as a recipe of its own, by 5 for the line's length and by 7.
-pub fn axis_weights(list: Cascade, side: usize, out: &mut [u64]) -> u8
-    ensures { AxisFilled (widths list) side out.old result out.new }
+pub fn axis_weights(list: Cascade, side: usize, out: &mut [u64]) -> Result<(), Refusal>
+    ensures { AxisFilled (widths list) side out.old (outcome result) out.new }
 {
-    let columns = no_filter().columns;
-    let m = measure(Filter {
-        rows: list,
-        columns,
-    });
-    let number = m.refusal;
-    if number != 0 {
-        return number;
-    }
+    let m = measure(alone(list))?;
     if bad_side(side) {
-        return 5;
+        return Err(Refusal::BadSides);
     }
     if out.len() != side {
-        return 7;
+        return Err(Refusal::OtherOutput);
     }
-    let mut kernel = [0u64; 256];
-    let z: usize = 0;
-    let end = m.row_order + 1;
-    axis_sums(list, &mut kernel[z..end], out);
-    0
+    let mut kernel = [0; 256];
+    let count = m.row_order + 1;
+    axis_sums(list, &mut kernel[..count], out);
+    Ok(())
 }

@@ -6,47 +6,39 @@ ghost use Rattle.spec.specs.Refusals.{bad_side, bad_sides, answer, size_checks};
 ghost use Rattle.filter.specs.Answers.{size_told};
 
 use crate::checks::measure;
-use spec::Filter;
+use spec::{Filter, Refusal};
 
-// The sides of the grown picture, or the number of the refusal.
-#[derive(Drop)]
-pub enum FullSize {
-    Sides { width: usize, height: usize },
-    Refused(u8),
+// The sides of a picture.
+#[derive(Clone, Copy)]
+pub struct Sides {
+    pub width: usize,
+    pub height: usize,
 }
 
 // A side of 0 or above 1,024.
 pub(crate) fn bad_side(n: usize) -> bool
     ensures { result ≡ bad_side n }
 {
-    if n == 0 { true } else { 1024 < n }
+    n == 0 || 1024 < n
 }
 
 // So on either axis.
 fn bad_sides(width: usize, height: usize) -> bool
     ensures { result ≡ bad_sides width height }
 {
-    if bad_side(width) {
-        true
-    } else {
-        bad_side(height)
-    }
+    bad_side(width) || bad_side(height)
 }
 
 // The grown sides of a picture: refused by 1 to 5.
-pub fn full_size(filter: Filter, width: usize, height: usize) -> FullSize
+pub fn full_size(filter: Filter, width: usize, height: usize) -> Result<Sides, Refusal>
     ensures { size_told result ≡ answer (size_checks (recipe filter) width height) (full_sides (recipe filter) width height) }
 {
-    let m = measure(filter);
-    let number = m.refusal;
-    if number != 0 {
-        return FullSize::Refused(number);
-    }
+    let m = measure(filter)?;
     if bad_sides(width, height) {
-        return FullSize::Refused(5);
+        return Err(Refusal::BadSides);
     }
-    FullSize::Sides {
+    Ok(Sides {
         width: width + m.row_order,
         height: height + m.column_order,
-    }
+    })
 }

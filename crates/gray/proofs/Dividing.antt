@@ -9,8 +9,10 @@ use Rattle.spec.specs.Picture.{largest_gray}
 use Rattle.spec.specs.Gray.{gray, leftover, grays, leftovers, nearest}
 use Rattle.laws.proofs.Lists.{tab_agree, tab_map}
 use Rattle.laws.proofs.Signed.{not_below_is, same_apart}
-use Rattle.gray.specs.Division.{reciprocal_bits, divisor, estimate, by_reciprocal, quotient, multiple, signed64, shade_gray, shade_leftover, Divides, Bounded}
+use Rattle.gray.specs.Division.{reciprocal_bits, reciprocal_of, divisor, divided, times, estimate, by_reciprocal, quotient, multiple, leftover_of, signed64, shade_gray, shade_leftover, Divides, Bounded}
 use Rattle.gray.specs.declared.rounding.Divisor.{Divisor}
+use Rattle.gray.specs.declared.rounding.Way.{Way}
+use Rattle.gray.specs.declared.rounding.Way.TheVariants.{Shift, Reciprocal}
 
 -- a number below 2^k with no bit set
 no_bit : (k n : ℕ) → n < 2 ^ k → ones n ≡ 0 → n ≡ 0
@@ -46,6 +48,10 @@ by_shift : (w : ℕ) → w ≤ 2 ^ 44 → eqb (ones w) 1 ≡ true → 2 ^ (count
 by_shift w light e =
     let q = single_bit 64 w (omega arith) (eqb-true (ones w) 1 e) in
     ap (λ k. 2 ^ k) (mod-eq_of_lt q.1) ∙ q.0
+
+-- how a weight divides, by whether it has a single bit set
+abbrev way_by : Bool → ℕ → Way
+way_by b w = cond b (Shift (count_trailing_zeros 64 w)) (Reciprocal (reciprocal_of w))
 
 -- a number times a reciprocal, in which `unit` stands for 1
 abbrev scaled : ℕ → ℕ → ℕ → ℕ
@@ -133,7 +139,7 @@ module _ (most w s : ℕ) (positive : 0 < w) (light : w ≤ 2 ^ 44) (suits : Sui
       let e = scaled (2 ^ reciprocal_bits) w raised in
       omega (arith, add-mul e 1 w, not_above (2 ^ reciprocal_bits) w raised positive (omega arith) raised_near, raised_near, light)
 
-  by_multiple : by_reciprocal (divisor w) raised ≡ raised / w
+  by_multiple : by_reciprocal w (reciprocal_of w) raised ≡ raised / w
   unfolding estimate by_reciprocal
   by_multiple =
       let one = 2 ^ reciprocal_bits in
@@ -144,10 +150,9 @@ module _ (most w s : ℕ) (positive : 0 < w) (light : w ≤ 2 ^ 44) (suits : Sui
 
   pub quotient_gray : quotient (divisor w) s ≡ gray w s
   unfolding quotient gray
-  quotient_gray = ap (λ x. cond (eqb (ones w) 1) (x / 2 ^ (count_trailing_zeros 64 w % 64)) (by_reciprocal (divisor w) x)) fits ∙ go (eqb (ones w) 1) (by_shift w light)
+  quotient_gray = ap (divided (way_by (eqb (ones w) 1) w) w) fits ∙ go (eqb (ones w) 1) (by_shift w light)
     where
-      go : (b : Bool) → (b ≡ true → 2 ^ (count_trailing_zeros 64 w % 64) ≡ w)
-          → cond b (raised / 2 ^ (count_trailing_zeros 64 w % 64)) (by_reciprocal (divisor w) raised) ≡ raised / w
+      go : (b : Bool) → (b ≡ true → 2 ^ (count_trailing_zeros 64 w % 64) ≡ w) → divided (way_by b w) w raised ≡ raised / w
       go true shift = ap (λ d. raised / d) (shift refl)
       go false shift = by_multiple
 
@@ -162,14 +167,6 @@ own_weight w by d = ap (λ (x : Divisor). x.weight) d.is
 
 pub divides_own : (w : ℕ) (by : Divisor) → Divides w by → Divides by.weight by
 divides_own w by d = subst (λ v. Divides v by) (sym (own_weight w by d)) d
-
--- what multiplies by a weight that has a single bit set
-pub single_shift : (w : ℕ) (by : Divisor) → Divides w by → by.single ≡ true → (2 ^ by.shift ≡ w) × (by.shift < 64)
-single_shift w by d e =
-    let is = d.is in
-    let q = single_bit 64 w (omega (arith, d.light)) (eqb-true (ones w) 1 (ap (λ (x : Divisor). x.single) (sym is) ∙ e)) in
-    let shift : by.shift ≡ count_trailing_zeros 64 w = ap (λ (x : Divisor). x.shift) is in
-    (ap (λ k. 2 ^ k) shift ∙ q.0, subst (λ k. k < 64) (sym shift) q.1)
 
 -- a quotient that is a grey
 pub rounded_gray : (most w : ℕ) (by : Divisor) → Divides w by → Suits most → (s q : ℕ) → s ≤ most * w → q ≡ quotient by s → (q ≡ gray w s) × (q ≤ most)
@@ -209,18 +206,15 @@ multiple_is : (w : ℕ) (by : Divisor) → Divides w by → (count : ℕ) → co
 unfolding multiple
 multiple_is w by d count byte =
     let small : count * w ≤ 255 * 2 ^ 44 = mul-le-mul byte d.light in
-    (go by.single refl small, small)
+    (ap (λ (x : Divisor). times x.way x.weight count) d.is ∙ go (eqb (ones w) 1) (by_shift w d.light) ∙ mod-eq_of_lt (omega arith), small)
   where
-    go : (b : Bool) → by.single ≡ b → count * w ≤ 255 * 2 ^ 44 → cond b (count * 2 ^ (by.shift % 64) % 2 ^ 64) (count * by.weight % 2 ^ 64) ≡ count * w
-    go true e small =
-        let q = single_shift w by d e in
-        let is : count * 2 ^ (by.shift % 64) ≡ count * w = ap (λ n. count * n) (ap (λ k. 2 ^ k) (mod-eq_of_lt q.1) ∙ q.0) in
-        ap (λ n. n % 2 ^ 64) is ∙ mod-eq_of_lt (omega arith)
-    go false e small = ap (λ n. count * n % 2 ^ 64) (own_weight w by d) ∙ mod-eq_of_lt (omega arith)
+    go : (b : Bool) → (b ≡ true → 2 ^ (count_trailing_zeros 64 w % 64) ≡ w) → times (way_by b w) w count ≡ count * w % 2 ^ 64
+    go true shift = ap (λ d. count * d % 2 ^ 64) (shift refl)
+    go false shift = refl
 
 -- the grey and the leftover, where the weight is not 0 and at most 2^44 and the sum at most the largest grey times it
 pub shade_is : (w : ℕ) (by : Divisor) → Divides w by → (s : ℕ) → s ≤ largest_gray * w → (shade_gray by s ≡ gray w s) × (shade_leftover by s ≡ leftover w s)
-unfolding shade_gray shade_leftover leftover
+unfolding shade_gray shade_leftover leftover_of leftover
 shade_is w by d s bounded =
     let is = rounded_gray largest_gray w by d (record { fits = omega arith; near = omega arith }) s (quotient by s) bounded refl in
     let m = multiple_is w by d (quotient by s) is.1 in

@@ -2,8 +2,5 @@
 #![tactic(auto)]
 
 mod rounding;
-mod wrapping;
 
-pub use rounding::{
-    Divisor, Shade, divisor_of, divisor_with, reciprocal_of, round, round_one, round_row, rounded,
-};
+pub use rounding::{Divisor, Shade, Way, reciprocal_of, round, round_row};

@@ -2,12 +2,14 @@
 -- a row down a picture that is stored row by row.
 -- Assumes nothing.
 use mathlib.Core.Path.{◌≡◌, refl, sym, ap, ◌∙◌}
-use mathlib.Core.List.{List, [], ◌∷◌}
+use mathlib.Core.List.{List, [], ◌∷◌, ◌++◌}
 use Prim.Native.Nat.{ℕ, zero, suc, ◌+◌, ◌-◌, ◌*◌, ◌≤◌, ◌<◌}
 use native.Mathlib.Nat.{le_refl, le_trans, mul-zero, zero-mul, one-mul, mul-one, suc-mul, zero-add, add_comm}
 use native.Mathlib.Decide.{dec_le}
 use native.Mathlib.Omega.{arith}
-use lib.ListN.{get_or-eq_default}
+use native.Mathlib.Numerals.{add-one}
+use lib.ListN.{length, get_or, take, get_or-eq_default}
+use lib.Seq.{take-suc}
 use Rattle.spec.specs.Words.{sum}
 use Rattle.spec.specs.Recipe.{kernel, order, weight}
 use Rattle.laws.proofs.Sums.{sum_agree, sum_zero, sum_first, sum_front, sum_swap}
@@ -170,3 +172,20 @@ cascaded_conv (n ∷ ns) f k =
     ∙ sym (conv_assoc u (ones n) f k)
     ∙ conv_agree (conv u (ones n)) (at (kernel (n ∷ ns))) f f k
     (λ a h. conv_comm u (ones n) a ∙ sym (at_kernel n ns a ∙ boxed_conv n u a)) (λ a h. refl)
+
+-- one box more at the end is one box filter more too
+at_kernel_last : (n : ℕ) (ns : List ℕ) (k : ℕ) → at (kernel (ns ++ n ∷ [])) k ≡ boxed n (at (kernel ns)) k
+at_kernel_last n [] k = at_kernel n [] k
+at_kernel_last n (m ∷ ns) k =
+    let u = at (kernel ns) in
+    let longer = at (kernel (ns ++ n ∷ [])) in
+    at_kernel m (ns ++ n ∷ []) k
+    ∙ sym (spread_one m longer k)
+    ∙ spread_agree 1 m longer (spread 1 n u) k (λ j l. at_kernel_last n ns j ∙ sym (spread_one n u j))
+    ∙ spread_comm 1 1 m n u k
+    ∙ spread_agree 1 n (spread 1 m u) (at (kernel (m ∷ ns))) k (λ j l. spread_one m u j ∙ sym (at_kernel m ns j))
+    ∙ spread_one n (at (kernel (m ∷ ns))) k
+
+pub at_kernel_more : (ns : List ℕ) (i : ℕ) (k : ℕ) → i < length ns
+    → at (kernel (take (i + 1) ns)) k ≡ boxed (get_or ns i 0) (at (kernel (take i ns))) k
+at_kernel_more ns i k h = rw (add-one i, take-suc ns i 0 h) (at_kernel_last (get_or ns i 0) (take i ns) k)

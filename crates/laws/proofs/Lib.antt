@@ -6,6 +6,7 @@ pub mod Slices
 pub mod Rows
 pub mod Refusals
 pub mod Results
+pub mod Boxes
 pub mod Sequences
 pub mod Convolution
 pub mod Kernels

@@ -4,7 +4,7 @@ use mathlib.Core.Path.{◌≡◌, refl, sym, ap, ap₂, ◌∙◌}
 use mathlib.Core.Bool.{Bool, false, ◌||◌, or_assoc, or-false}
 use mathlib.Core.List.{List, [], ◌∷◌, ◌++◌, map}
 use Prim.Native.Nat.{ℕ, zero, suc, ◌+◌, ◌*◌, ◌≤◌, ◌<◌, suc-le-suc}
-use native.Mathlib.Nat.{zero-add, le_of_suc-le-suc, not-suc-le-zero, zero-lt-suc, mul-zero, mul-one, mul-add, mul_comm, mul_assoc, le_refl, le_trans, le_of_eq, le-mul_of_pos_right}
+use native.Mathlib.Nat.{zero-add, le_of_suc-le-suc, not-suc-le-zero, zero-lt-suc, mul-zero, mul-one, mul-add, mul_comm, mul_assoc, le_refl, le_trans, le_of_eq, le-mul_of_pos_right, mul-le-mul}
 use native.Mathlib.Numerals.{add-one}
 use native.Mathlib.Omega.{arith}
 use lib.Dec.{eqb}
@@ -148,6 +148,13 @@ first_pos x xs h = factor_pos (product xs) x (rw (mul_comm (product xs) x) h)
 pub rest_pos : (x : ℕ) (xs : List ℕ) → 0 < product (x ∷ xs) → 0 < product xs
 unfolding product
 rest_pos x xs h = factor_pos x (product xs) h
+
+-- the product of the front of a list is no more than the whole, where no entry is 0
+pub product_front : (i : ℕ) (xs : List ℕ) → 0 < product xs → product (take i xs) ≤ product xs
+unfolding product
+product_front zero xs h = h
+product_front (suc i) [] h = le_refl 1
+product_front (suc i) (x ∷ xs) h = mul-le-mul (le_refl x) (product_front i xs (rest_pos x xs h))
 
 -- the product of the back of a list is no more than the whole, where no entry is 0
 pub product_back : (i : ℕ) (xs : List ℕ) → 0 < product xs → product (drop i xs) ≤ product xs

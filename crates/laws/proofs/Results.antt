@@ -1,13 +1,13 @@
 -- What an answer that is an `Ok` or an `Err` says of the checks, and how one is answered.
 -- Assumes nothing.
-use mathlib.Core.Path.{◌≡◌, refl, sym, ap, ◌∙◌}
+use mathlib.Core.Path.{◌≡◌, sym, ap, ◌∙◌}
 use mathlib.Core.List.{List}
-use Prim.Native.Nat.{ℕ, zero, suc, ◌<◌}
+use Prim.Native.Nat.{◌<◌}
 use native.Mathlib.Omega.{arith}
 use Rattle.std.specs.Prelude.{Result, Ok, Err}
 use Rattle.spec.specs.declared.refusal.Refusal.{Refusal}
 use Rattle.spec.specs.declared.refusal.Refusal.TheVariants.{TooLong, ZeroWidth, TooFar, TooHeavy, BadSides, OtherPixels, OtherOutput, TooFewCells, BadState, NotDue, TooBright, ParityDiffers, ProductTooHeavy, BadFile, Outside, BadLevel}
-use Rattle.spec.specs.Refusals.{Check, first, accepted, refused, answer, Answer, lent, number, outcome, told}
+use Rattle.spec.specs.Refusals.{Check, first, accepted, answer, number, outcome, told}
 use Rattle.laws.proofs.Refusals.{answer_refused, answer_accepted, read_refused, read_accepted}
 
 -- no refusal has the number 0

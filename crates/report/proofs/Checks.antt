@@ -18,7 +18,7 @@ use Rattle.laws.proofs.Numbers.{neither}
 use Rattle.laws.proofs.Refusals.{Numbered, Sized, lent_refused, lent_accepted, first_front, first_then, first_none, none_both, numbered_more, size_numbered, recipe_numbered, is_sized, same_length_so}
 use Rattle.filter.specs.declared.checks.Measures.{Measures}
 use Rattle.filter.specs.Measured.{measured}
-use Rattle.filter.proofs.Refusal.{Known, known, number_is}
+use Rattle.filter.proofs.Measuring.{Known, known, number_is}
 use Rattle.stream.specs.declared.calls.Started.{Started}
 use Rattle.stream.specs.Calls.{Began, began, zeros, started, start}
 use Rattle.job.specs.declared.reading.Job.{Job}

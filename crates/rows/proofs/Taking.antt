@@ -23,7 +23,7 @@ use Rattle.laws.proofs.Lists.{length_tab, get_d_tab}
 use Rattle.laws.proofs.Exact.{exact_small}
 use Rattle.laws.proofs.Refusals.{Sized, AcceptedPicture, grown_most, none_both, first_then, size_numbered, is_sized}
 use Rattle.filter.specs.declared.checks.Measures.{Measures}
-use Rattle.filter.proofs.Refusal.{Known}
+use Rattle.filter.proofs.Measuring.{Known}
 use Rattle.stream.specs.declared.calls.State.{State}
 use Rattle.stream.specs.Calls.{state_at}
 use Rattle.rows.specs.Streaming.{Streamed}

@@ -3,11 +3,12 @@
 // to run before.
 #![tactic(auto)]
 
-ghost use Rattle.std.specs.Prelude.{◌≡◌, ◌↔◌, ◌<◌, ◌≤◌, ◌⊎◌, length, take, IsNone, IsSome, IsTrue};
+ghost use Rattle.std.specs.Prelude.{◌≡◌, ◌↔◌, ◌<◌, ◌≤◌, ◌⊎◌, length, take, IsNone, IsTrue};
 ghost use Rattle.std.specs.IoError.{error_kind};
-ghost use Rattle.std.specs.Io.KnownBytes.{Appends, Consumes, IsAtEnd};
+ghost use Rattle.std.specs.Io.{ReadsAtMost, WritesAtMost};
+ghost use Rattle.std.specs.Io.KnownBytes.{Appends, Consumes, IsAtEnd, ReadConsumes, WriteAppends};
 
-use std::io::{Error, ErrorKind, Read, Write};
+use std::io::{Error, ErrorKind, Read, Result, Write};
 use std::thread::yield_now;
 
 // How often a call is made while no byte moves: for some seconds.
@@ -36,30 +37,20 @@ fn may_pass(error: &Error) -> bool
     kind == ErrorKind::Interrupted || kind == ErrorKind::WouldBlock
 }
 
-// Reads some bytes; none where the input has ended or a read fails.
-fn read_some<R: Read>(reader: &mut R, bytes: &mut [u8]) -> Input
-    ensures bound { result.count ≤ length bytes.new }
-    ensures none { IsSome result.error → result.count ≡ 0 }
-    ensures read { Consumes (R.remaining reader.old) (R.remaining reader.new) (take result.count bytes.new) }
-    ensures end { IsNone result.error → result.count ≡ 0 → 0 < length bytes.new → IsAtEnd (R.remaining reader.new) }
+// Reads some bytes; none where the input has ended.
+fn read_some<R: Read>(reader: &mut R, bytes: &mut [u8]) -> Result<usize>
+    ensures bound { ReadsAtMost result bytes.new }
+    ensures read { ReadConsumes (R.remaining reader.old) (R.remaining reader.new) result bytes.new }
 {
-    let mut error = Error::from(ErrorKind::TimedOut);
+    let mut last = Error::from(ErrorKind::TimedOut);
     for _ in 0..TRIES {
         match reader.read(bytes) {
-            Ok(count) => {
-                return Input { count, error: None };
-            }
-            Err(e) => error = e,
-        }
-        if !may_pass(&error) {
-            break;
+            Err(error) if may_pass(&error) => last = error,
+            answer => return answer,
         }
         yield_now();
     }
-    Input {
-        count: 0,
-        error: Some(error),
-    }
+    Err(last)
 }
 
 // Reads until the input ends, `bytes` is full or a read fails.
@@ -68,22 +59,18 @@ fn read_into<R: Read>(reader: &mut R, bytes: &mut [u8]) -> Input
     ensures read { Consumes (R.remaining reader.old) (R.remaining reader.new) (take result.count bytes.new) }
     ensures end { IsNone result.error → result.count < length bytes.new → IsAtEnd (R.remaining reader.new) }
 {
-    let end = bytes.len();
-    let mut count: usize = 0;
-    while count < end {
-        let more = read_some(reader, &mut bytes[count..end]);
-        if more.error.is_some() {
-            return Input {
-                count,
-                error: more.error,
-            };
+    let mut count = 0;
+    let error = loop {
+        if count == bytes.len() {
+            break None;
         }
-        if more.count == 0 {
-            return Input { count, error: None };
+        match read_some(reader, &mut bytes[count..]) {
+            Ok(0) => break None,
+            Ok(more) => count += more,
+            Err(error) => break Some(error),
         }
-        count += more.count;
-    }
-    Input { count, error: None }
+    };
+    Input { count, error }
 }
 
 // Reads what boresums takes: up to one byte more than the 65,536 of a job, which is enough to see that the
@@ -96,36 +83,23 @@ pub fn read_all<R: Read>(reader: &mut R, bytes: &mut [u8; 65537]) -> Input
     read_into(reader, bytes)
 }
 
-// Writes some bytes, and answers how many; none where a write fails or none takes any.
-fn write_some<W: Write>(writer: &mut W, bytes: &[u8]) -> Output
-    ensures bound { result.written ≤ length bytes.now }
-    ensures some { IsNone result.error ↔ (0 < result.written) }
-    ensures sent { Appends (W.contents writer.old) (W.contents writer.new) (take result.written bytes.now) }
+// Writes some bytes, and answers how many; none where no try takes any.
+fn write_some<W: Write>(writer: &mut W, bytes: &[u8]) -> Result<usize>
+    ensures bound { WritesAtMost result bytes.now }
+    ensures sent { WriteAppends (W.contents writer.old) (W.contents writer.new) result bytes.now }
 {
-    let mut error = Error::from(ErrorKind::WriteZero);
+    let mut last = Ok(0);
     for _ in 0..TRIES {
         match writer.write(bytes) {
-            Ok(count) => {
-                if count > 0 {
-                    return Output {
-                        written: count,
-                        error: None,
-                    };
-                }
-            }
-            Err(e) => {
-                error = e;
-                if !may_pass(&error) {
-                    break;
-                }
+            Ok(0) => {}
+            Err(error) if may_pass(&error) => {
+                last = Err(error);
                 yield_now();
             }
+            answer => return answer,
         }
     }
-    Output {
-        written: 0,
-        error: Some(error),
-    }
+    last
 }
 
 // Writes `bytes` from the first on, and answers how many: all of them, unless a write fails.
@@ -134,20 +108,19 @@ pub fn write_all<W: Write>(writer: &mut W, bytes: &[u8]) -> Output
     ensures whole { IsNone result.error ↔ (result.written ≡ length bytes.now) }
     ensures sent { Appends (W.contents writer.old) (W.contents writer.new) (take result.written bytes.now) }
 {
-    let end = bytes.len();
-    let mut done: usize = 0;
-    while done < end {
-        let more = write_some(writer, &bytes[done..end]);
-        if more.written == 0 {
-            return Output {
-                written: done,
-                error: more.error,
-            };
+    let mut rest = bytes;
+    let error = loop {
+        if rest.is_empty() {
+            break None;
         }
-        done += more.written;
-    }
+        match write_some(writer, rest) {
+            Ok(0) => break Some(Error::from(ErrorKind::WriteZero)),
+            Ok(count) => rest = &rest[count..],
+            Err(error) => break Some(error),
+        }
+    };
     Output {
-        written: done,
-        error: None,
+        written: bytes.len() - rest.len(),
+        error,
     }
 }

@@ -1,19 +1,20 @@
 -- The decimal digits of a number: how many there are, and each of them.
 -- Assumes nothing.
 use mathlib.Core.Path.{◌≡◌, refl, sym, ap, ap₂, ◌∙◌}
-use mathlib.Core.List.{List, [], ◌∷◌, ◌++◌}
+use mathlib.Core.List.{List, [], ◌∷◌, ◌++◌, append-nil}
 use Prim.Native.Nat.{ℕ, zero, suc, ◌+◌, ◌-◌, ◌*◌, ◌/◌, ◌%◌, ◌^◌, ◌≤◌, ◌<◌}
-use native.Mathlib.Nat.{add-zero, mul_assoc, mod-eq_of_lt, div-add-mod, mul-add-div, mul-add-mod_self_left, div-div-eq-div-mul, not-suc-le-zero, le_of_suc-le-suc, zero-lt-suc, le_refl, one-le-pow, pow-suc, pow-le-pow_right, le-div_iff_mul-le, div-lt_iff_lt-mul}
+use native.Mathlib.Nat.{add-zero, mul_assoc, mod-eq_of_lt, div-add-mod, mul-add-div, mul-add-mod_self_left, div-div-eq-div-mul, not-suc-le-zero, le_of_suc-le-suc, zero-lt-suc, le_refl, one-le-pow, pow-suc}
 use native.Mathlib.Omega.{arith}
 use native.Mathlib.Decide.{dec_lt}
 use lib.ListN.{length, get_or, drop, set, length-append, length-set}
-use lib.Pow.{pow-add}
-use lib.Seq.{append_snoc, drop-cons, get_or-set_same, drop-set-lt}
+use native.Mathlib.Numerals.{add-one}
+use lib.Seq.{append_snoc, drop-cons, drop-length, get_or-set_same, drop-set-lt}
 use borrow.Author.Tests.{lt-ltb, le-ltb}
+use Rattle.std.specs.Prelude.{Option, None, Some, IfNone, IfSome, unwrap_or}
 use Rattle.spec.specs.Words.{tab}
 use Rattle.spec.specs.Program.{decimal_digits, decimal}
 use Rattle.laws.proofs.Rows.{get_d_rows}
-use Rattle.text.specs.Private.{Counted, digit_pairs}
+use Rattle.text.specs.Private.{digit_pairs}
 
 -- the last digits of a number, as many as asked for, with zeros in front where it has fewer
 unfoldable pub places : ℕ → ℕ → List ℕ
@@ -31,7 +32,7 @@ module _ (most n : ℕ) where
   digits_more h = rw (le-ltb n 10 h)
 
 -- a number has k + 1 digits where 10 ^ k is the largest power of 10 that it reaches
-pub length_digits : (most k n : ℕ) → k < most → (0 < k → 10 ^ k ≤ n) → n < 10 ^ suc k → length (decimal_digits most n) ≡ suc k
+length_digits : (most k n : ℕ) → k < most → (0 < k → 10 ^ k ≤ n) → n < 10 ^ suc k → length (decimal_digits most n) ≡ suc k
 length_digits zero k n h low high = absurd (not-suc-le-zero h)
 length_digits (suc most) zero n h low high = ap length (digits_one most n high)
 length_digits (suc most) (suc k) n h low high =
@@ -64,49 +65,15 @@ pub length_decimal : (n : ℕ) → length (decimal n) ≤ 20
 unfolding decimal
 length_decimal n = digits_most 20 n
 
--- the powers of 10 that a 64-bit number can reach
-pub below_twenty : (k n : ℕ) → 10 ^ k ≤ n → n < 2 ^ 64 → k < 20
-below_twenty k n h g =
-    elim (dec_lt k 20) [
-      | yes l ↦ l
-      | no l ↦
-          let past : 20 ≤ k = omega arith in
-          let p : 10 ^ 20 ≤ 10 ^ k = pow-le-pow_right (zero-lt-suc 9) past in
-          absurd (omega arith)
-    ]
-
--- how many digits a number has, from how many there are before its last k
-pub counted_past : (k : ℕ) {n r : ℕ} → 10 ^ k ≤ n → Counted (n / 10 ^ k) r → Counted n (r + k)
-counted_past k {n} {r} h c =
-    let p = one-le-pow k 10 (omega arith) in
-    let back : r + k - 1 ≡ r - 1 + k = omega (arith, c.some) in
-    let first : 10 ^ (r - 1) ≤ n / 10 ^ k =
-    elim (dec_lt 1 r) [
-      | yes g ↦ c.reached g
-      | no g ↦ let e : r - 1 ≡ 0 = omega arith in rw e ((le-div_iff_mul-le p).1 (omega arith))
-    ] in
-    record {
-      some = omega (arith, c.some);
-      below = rw (pow-add 10 r k) ((div-lt_iff_lt-mul p).0 c.below);
-      reached = λ g. rw (back, pow-add 10 (r - 1) k) ((le-div_iff_mul-le p).0 first);
-    }
-
-pub counted_length : {n r : ℕ} → n < 2 ^ 64 → Counted n r → (r ≡ length (decimal n)) × (r ≤ 20)
+-- a number's digits by the largest power of 10 that it reaches, if any
+pub digits_reached : (n : ℕ) (o : Option ℕ) → IfNone o (n ≡ 0) → IfSome o (λ k. 10 ^ k ≤ n) → IfSome o (λ k. n < 10 * 10 ^ k) → IfSome o (λ k. k < 20)
+    → (unwrap_or o 0 + 1 ≡ length (decimal n)) × (unwrap_or o 0 + 1 ≤ 20)
 unfolding decimal
-counted_length {n} {r} g c =
-    let k = r - 1 in
-    let e : suc k ≡ r = omega (arith, c.some) in
-    let most : k < 20 =
-    elim (dec_lt 1 r) [
-      | yes l ↦ below_twenty k n (c.reached l) g
-      | no l ↦ omega arith
-    ] in (
-      sym (length_digits 20 k n most (λ l. c.reached (omega arith)) (rw e c.below) ∙ e),
-      omega arith,
-    )
+digits_reached n None z l h g = (omega (arith, length_digits 20 0 n (omega arith) (λ u. absurd (omega arith)) (omega arith)), omega arith)
+digits_reached n (Some k) z l h g = (omega (arith, length_digits 20 k n g (λ u. l) (omega (arith, pow-suc 10 k))), omega arith)
 
 -- a number's digits are its last digits, as many as it has
-pub digits_places : (most n : ℕ) → decimal_digits most n ≡ places (length (decimal_digits most n)) n
+digits_places : (most n : ℕ) → decimal_digits most n ≡ places (length (decimal_digits most n)) n
 unfolding places decimal_digits
 digits_places zero n = refl
 digits_places (suc most) n =
@@ -124,7 +91,7 @@ digits_places (suc most) n =
     ]
 
 -- one digit more, written from the right
-pub places_more : (k n : ℕ) (l : List ℕ) → k < length l → places (suc k) n ++ drop (suc k) l ≡ places k (n / 10) ++ drop k (set l k (48 + n % 10))
+places_more : (k n : ℕ) (l : List ℕ) → k < length l → places (suc k) n ++ drop (suc k) l ≡ places k (n / 10) ++ drop k (set l k (48 + n % 10))
 unfolding places
 places_more k n l h =
     append_snoc (places k (n / 10)) (48 + n % 10) (drop (suc k) l)
@@ -132,6 +99,21 @@ places_more k n l h =
     (sym
     (drop-cons (set l k (48 + n % 10)) k 0 (omega (arith, length-set l k (48 + n % 10)))
     ∙ ap₂ ◌∷◌ (get_or-set_same l k (48 + n % 10) 0 h) (drop-set-lt (suc k) l k (48 + n % 10) (omega arith))))
+
+-- none is written yet
+pub none_written : (n : ℕ) (l : List ℕ) → length l ≡ length (decimal n) → decimal n ≡ places (length l) n ++ drop (length l) l
+unfolding decimal
+none_written n l e =
+    digits_places 20 n ∙ ap (λ k. places k n) (sym e) ∙ sym (ap (λ t. places (length l) n ++ t) (drop-length l) ∙ append-nil (places (length l) n))
+
+-- all are written, or all but the first
+pub all_written : (n k : ℕ) (l : List ℕ) → k ≤ 0 → places k n ++ drop k l ≡ l
+unfolding places
+all_written n k l h = let e : k ≡ 0 = omega arith in ap (λ k. places k n ++ drop k l) e
+
+pub first_written : (n k : ℕ) (l : List ℕ) → k ≡ 1 → k ≤ length l → places k n ++ drop k l ≡ set l 0 (48 + n % 10)
+unfolding places
+first_written n k l e h = ap (λ k. places k n ++ drop k l) e ∙ places_more 0 n l (omega arith)
 
 -- the last two digits of a number, and what is left of it without them
 module _ (n : ℕ) where
@@ -145,7 +127,7 @@ module _ (n : ℕ) where
   next_digit = ap (λ m. m % 10) without_last ∙ mul-add-mod_self_left 10 (n / 100) (n % 100 / 10) ∙ mod-eq_of_lt (omega arith)
 
 -- two digits more
-pub places_pair : (k n : ℕ) (l : List ℕ) → suc k < length l
+places_pair : (k n : ℕ) (l : List ℕ) → suc k < length l
     → places (suc (suc k)) n ++ drop (suc (suc k)) l
     ≡ places k (n / 100) ++ drop k (set (set l (suc k) (48 + n % 100 % 10)) k (48 + n % 100 / 10))
 places_pair k n l h =
@@ -161,10 +143,24 @@ digit p zero = 48 + p / 10
 digit p (suc k) = 48 + p % 10
 
 module _ (p : ℕ) (h : p < 100) where
-  pub pair_tens : get_or digit_pairs (p * 2) 0 ≡ 48 + p / 10
+  pair_tens : get_or digit_pairs (p * 2) 0 ≡ 48 + p / 10
   unfolding digit_pairs tab digit
   pair_tens = ap (λ k. get_or digit_pairs k 0) (sym (add-zero (p * 2))) ∙ get_d_rows 2 100 digit 0 p 0 h (omega arith)
 
-  pub pair_ones : get_or digit_pairs (p * 2 + 1) 0 ≡ 48 + p % 10
+  pair_ones : get_or digit_pairs (p * 2 + 1) 0 ≡ 48 + p % 10
   unfolding digit_pairs tab digit
   pair_ones = get_d_rows 2 100 digit 0 p 1 h (omega arith)
+
+-- two digits more, those of a pair of the table
+pub pair_written : (k n tens ones : ℕ) (l pairs : List ℕ) → 1 < k → k ≤ length l → pairs ≡ digit_pairs
+    → tens ≡ get_or pairs (n % 100 * 2) 0 → ones ≡ get_or pairs (n % 100 * 2 + 1) 0
+    → places k n ++ drop k l ≡ places (k - 2) (n / 100) ++ drop (k - 2) (set (set l (k - 2 + 1) ones) (k - 2) tens)
+pair_written k n tens ones l pairs g h all t o =
+    let p = n % 100 in
+    let j = k - 2 in
+    let here : k ≡ suc (suc j) = omega arith in
+    let first = t ∙ ap (λ l. get_or l (p * 2) 0) all ∙ pair_tens p (omega arith) in
+    let second = o ∙ ap (λ l. get_or l (p * 2 + 1) 0) all ∙ pair_ones p (omega arith) in
+    ap (λ k. places k n ++ drop k l) here
+    ∙ places_pair j n l (omega arith)
+    ∙ (λ i. places j (n / 100) ++ drop j (set (set l (sym (add-one j) i) (sym second i)) j (sym first i)))

@@ -2,13 +2,14 @@
 -- refusal.
 -- Assumes nothing.
 use mathlib.Core.Path.{◌≡◌, refl, sym, ap, ap₂, ◌∙◌}
-use mathlib.Core.List.{List, [], ◌∷◌, ◌++◌, append_assoc}
+use mathlib.Core.List.{List, [], ◌∷◌, ◌++◌, append-nil, append_assoc}
 use Prim.Native.Nat.{ℕ, suc, ◌+◌, ◌-◌, ◌*◌, ◌≤◌, ◌<◌}
 use native.Mathlib.Nat.{le_refl}
 use native.Mathlib.Omega.{arith}
-use lib.ListN.{length, get_or, take, drop, set, length-append}
+use lib.ListN.{length, get_or, take, drop, set, length-append, length-drop, drop_of_length-le}
+use borrow.Rule.Slice.PartMut.{put_mid}
 use native.Mathlib.Numerals.{add-one}
-use lib.Seq.{take-suc, take_at, take-append-add, set_split, set-append_left, take_all, take-append_seam, drop-append-add, drop-drop, sets, sets-eq, set_at, length-take-le, drop-length, drop-cons}
+use lib.Seq.{take-suc, take_at, take-append-add, set_split, set-append_left, take_all, drop_at, drop-drop, set_at, length-take-le, drop-length, drop-cons}
 use Rattle.spec.specs.Program.{decimal, line, refusal_printed}
 use Rattle.text.proofs.Digits.{length_decimal}
 
@@ -68,30 +69,25 @@ ended (x ∷ xs) old b h g =
     (set-append_left (x ∷ xs) (drop (suc k) old) k b (omega arith)
     ∙ ap₂ ◌++◌ (set_split (x ∷ xs) k b (omega arith) ∙ ap (λ t. take k (x ∷ xs) ++ (b ∷ t)) last) (ap (λ n. drop n old) (sym (add-one k))))
 
--- digits stored from a place on, then a byte after them
-pub stored_after : (from end b : ℕ) (ds old : List ℕ) → end ≡ from + length ds → end < length old
-    → set (take from old ++ (ds ++ drop (end - from) (drop from old))) end b ≡ take from old ++ (ds ++ (b ∷ drop (end + 1) old))
-stored_after from end b ds old e h =
-    let sum : from + (end - from) ≡ end = omega arith in
-    let back : drop (end - from) (drop from old) ≡ get_or old end 0 ∷ drop (suc end) old =
-    drop-drop (end - from) from old ∙ ap (λ n. drop n old) sum ∙ drop-cons old end 0 h in
-    let size : length (take from old ++ ds) ≡ end = length-append (take from old) ds ∙ omega (arith, length-take-le from old (omega arith)) in
-    ap (λ t. set (take from old ++ (ds ++ t)) end b) back
-    ∙ ap (λ t. set t end b) (sym (append_assoc (take from old) ds (get_or old end 0 ∷ drop (suc end) old)))
-    ∙ set_at (take from old ++ ds) (get_or old end 0) (drop (suc end) old) b end size
-    ∙ append_assoc (take from old) ds (b ∷ drop (suc end) old)
-    ∙ ap (λ n. take from old ++ (ds ++ (b ∷ drop n old))) (sym (add-one end))
+-- digits stored at the front of a slice, then a byte after them
+pub stored_front : (end b : ℕ) (ds old : List ℕ) → end ≡ length ds → end < length old
+    → set (ds ++ drop end old) end b ≡ ds ++ (b ∷ drop (end + 1) old)
+stored_front end b ds old e h =
+    ap (λ t. set (ds ++ t) end b) (drop-cons old end 0 h)
+    ∙ set_at ds (get_or old end 0) (drop (suc end) old) b end (sym e)
+    ∙ ap (λ n. ds ++ (b ∷ drop n old)) (sym (add-one end))
 
--- digits and a space stored after those at the front of a slice
-pub front_more : (xs ds old : List ℕ) (r : ℕ) → r ≡ length xs + (length ds + 1) → let l = xs ++ drop (length xs) old in
-    take (length xs) l ++ (ds ++ (32 ∷ drop r l)) ≡ xs ++ (ds ++ (32 ∷ drop r old))
-front_more xs ds old r e =
-    let back : drop r (xs ++ drop (length xs) old) ≡ drop r old =
-    ap (λ n. drop n (xs ++ drop (length xs) old)) e
-    ∙ drop-append-add xs (drop (length xs) old) (length ds + 1)
-    ∙ drop-drop (length ds + 1) (length xs) old
-    ∙ ap (λ n. drop n old) (sym e) in
-    ap₂ (λ a t. a ++ (ds ++ (32 ∷ t))) (take-append_seam xs (drop (length xs) old)) back
+-- digits and a space stored after those at the front of a slice, into the part that was lent
+pub front_more : (xs ds put old : List ℕ) (end r lent : ℕ) → length xs ≡ end → length old - end ≤ lent → let l = xs ++ drop end old in
+    put ≡ ds ++ (32 ∷ drop r (take lent (drop end l))) → put_mid end lent l put ≡ xs ++ (ds ++ (32 ∷ drop (end + r) old))
+front_more xs ds put old end r lent size h e =
+    let l = xs ++ drop end old in
+    let back : drop end l ≡ drop end old = drop_at xs (drop end old) end size in
+    let whole : take lent (drop end l) ≡ drop end old = ap (take lent) back ∙ take_all lent (drop end old) (omega (arith, length-drop end old)) in
+    let none : drop lent (drop end l) ≡ [] =
+    ap (drop lent) back ∙ drop_of_length-le (drop end old) {i = lent} (omega (arith, length-drop end old)) in
+    let last : put ≡ ds ++ (32 ∷ drop (end + r) old) = e ∙ ap (λ t. ds ++ (32 ∷ drop r t)) whole ∙ ap (λ t. ds ++ (32 ∷ t)) (drop-drop r end old) in
+    ap₂ (λ a t. a ++ (put ++ t)) (take_at xs (drop end old) end size) none ∙ ap (λ t. xs ++ t) (append-nil put ∙ last)
 
 -- ---- printing a row
 
@@ -106,10 +102,11 @@ module _ (ns old : List ℕ) where
   unfolding spaced
   laid_none = record { place = refl; few = omega arith; is = refl }
 
-  pub laid_more : {i next r : ℕ} {out out' : List ℕ} → Laid ns old i next out → i < length ns
-      → r ≡ next + (length (decimal (get_or ns i 0)) + 1) → r ≤ next + 21
-      → out' ≡ take next out ++ (decimal (get_or ns i 0) ++ (32 ∷ drop r out)) → Laid ns old (i + 1) r out'
-  laid_more {i} {next} {r} {out} {out'} l h e g p =
+  pub laid_more : {i end r : ℕ} {out put : List ℕ} → Laid ns old i end out → i < length ns → length out ≡ length old
+      → r ≡ length (decimal (get_or ns i 0)) + 1 → r ≤ 21
+      → put ≡ decimal (get_or ns i 0) ++ (32 ∷ drop r (take (length out - end) (drop end out)))
+      → Laid ns old (i + 1) (end + r) (put_mid end (length out - end) out put)
+  laid_more {i} {end} {r} {out} {put} l h size e g p =
       let xs = spaced (take i ns) in
       let ds = decimal (get_or ns i 0) in
       let more : spaced (take (i + 1) ns) ≡ xs ++ (ds ++ (32 ∷ [])) = spaced_more ns i h in
@@ -117,12 +114,12 @@ module _ (ns old : List ℕ) where
         place = sym (ap length more ∙ length-append xs (ds ++ (32 ∷ [])) ∙ omega (arith, length-append ds (32 ∷ []), l.place));
         few = omega (arith, l.few);
         is =
-            p
-            ∙ ap₂ (λ n o. take n o ++ (ds ++ (32 ∷ drop r o))) l.place (l.is ∙ ap (λ n. xs ++ drop n old) l.place)
-            ∙ front_more xs ds old r (e ∙ ap (λ n. n + (length ds + 1)) l.place)
-            ∙ ap (λ t. xs ++ t) (sym (append_assoc ds (32 ∷ []) (drop r old)))
-            ∙ sym (append_assoc xs (ds ++ (32 ∷ [])) (drop r old))
-            ∙ ap (λ t. t ++ drop r old) (sym more);
+            ap (λ o. put_mid end (length out - end) o put) l.is
+            ∙ front_more xs ds put old end r (length out - end) (sym l.place) (omega arith)
+            (p ∙ ap (λ o. ds ++ (32 ∷ drop r (take (length out - end) (drop end o)))) l.is)
+            ∙ ap (λ t. xs ++ t) (sym (append_assoc ds (32 ∷ []) (drop (end + r) old)))
+            ∙ sym (append_assoc xs (ds ++ (32 ∷ [])) (drop (end + r) old))
+            ∙ ap (λ t. t ++ drop (end + r) old) (sym more);
       }
 
   -- all numbers are there, and the line's end takes the place of the last space
@@ -150,22 +147,29 @@ pub length_refusal : (n : ℕ) → length (refusal_printed n) ≤ 30
 unfolding refusal_printed
 length_refusal n = omega (arith, length_line (n ∷ []))
 
--- the word is stored, then the number and a space, and over that the line's end
-module _ (n r : ℕ) (old : List ℕ) (h : 8 ≤ length old) (e : r ≡ 8 + (length (decimal n) + 1)) where
-  pub refusal_length : r ≡ length (refusal_printed n)
+-- the word is copied, then the number and a space are put, and over that the line's end
+module _ (n r : ℕ) (put old : List ℕ) (h : length old ≡ 64) (e : r ≡ length (decimal n) + 1) where
+  refusal_length : 8 + r ≡ length (refusal_printed n)
   unfolding refusal_printed line
   refusal_length = omega (arith, length-append (decimal n) (10 ∷ []))
 
-  pub refusal_line_lem : (out : List ℕ) → out ≡ take 8 (sets old 0 word) ++ (decimal n ++ (32 ∷ drop r (sets old 0 word)))
-      → set out (r - 1) 10 ≡ refusal_printed n ++ drop r old
+  refusal_text : put ≡ decimal n ++ (32 ∷ drop r (take 56 (drop 8 (word ++ drop 8 old))))
+      → set (put_mid 8 56 (word ++ drop 8 old) put) (8 + r - 1) 10 ≡ refusal_printed n ++ drop (8 + r) old
   unfolding refusal_printed line
-  refusal_line_lem out p =
-      let size : length (word ++ decimal n) ≡ r - 1 = omega (arith, length-append word (decimal n)) in
-      ap (λ t. set t (r - 1) 10)
-      (p
-      ∙ ap (λ w. take 8 w ++ (decimal n ++ (32 ∷ drop r w))) (sets-eq word old 0 h)
-      ∙ front_more word (decimal n) old r e
-      ∙ sym (append_assoc word (decimal n) (32 ∷ drop r old)))
-      ∙ set_at (word ++ decimal n) 32 (drop r old) 10 (r - 1) size
-      ∙ append_assoc word (decimal n) (10 ∷ drop r old)
-      ∙ ap (λ t. word ++ t) (sym (append_assoc (decimal n) (10 ∷ []) (drop r old)))
+  refusal_text p =
+      let size : length (word ++ decimal n) ≡ 8 + r - 1 = omega (arith, length-append word (decimal n)) in
+      ap (λ t. set t (8 + r - 1) 10)
+      (front_more word (decimal n) put old 8 r 56 refl (omega arith) p ∙ sym (append_assoc word (decimal n) (32 ∷ drop (8 + r) old)))
+      ∙ set_at (word ++ decimal n) 32 (drop (8 + r) old) 10 (8 + r - 1) size
+      ∙ append_assoc word (decimal n) (10 ∷ drop (8 + r) old)
+      ∙ ap (λ t. word ++ t) (sym (append_assoc (decimal n) (10 ∷ []) (drop (8 + r) old)))
+
+  pub refusal_put : (first : List ℕ) → first ≡ word → put ≡ decimal n ++ (32 ∷ drop r (take 56 (drop 8 (first ++ drop 8 old))))
+      → (8 + r ≡ length (refusal_printed n))
+      × (set (put_mid 8 56 (first ++ drop 8 old) put) (8 + r - 1) 10 ≡ refusal_printed n ++ drop (length (refusal_printed n)) old)
+  refusal_put first w p = (
+    refusal_length,
+    ap (λ l. set (put_mid 8 56 (l ++ drop 8 old) put) (8 + r - 1) 10) w
+        ∙ refusal_text (p ∙ ap (λ l. decimal n ++ (32 ∷ drop r (take 56 (drop 8 (l ++ drop 8 old))))) w)
+        ∙ ap (λ k. refusal_printed n ++ drop k old) refusal_length,
+  )

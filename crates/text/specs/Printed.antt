@@ -1,14 +1,12 @@
 -- What printing a line of numbers answers, and what the lent slice then contains.
-use Rattle.std.specs.Prelude.{◌≡◌, List, [], ◌∷◌, ◌++◌, ℕ, ◌+◌, ◌*◌, length, drop}
+use Rattle.std.specs.Prelude.{◌≡◌, Result, List, [], ◌∷◌, ◌++◌, ℕ, ◌+◌, ◌*◌, length, drop}
 use Rattle.spec.specs.Program.{line}
-use Rattle.spec.specs.Refusals.{Check, Answer, accepted, refused, check, other_output, answer, lent}
-use Rattle.text.specs.declared.answers.Line.{Line}
-use Rattle.text.specs.declared.answers.Line.TheVariants.{Length, Refused}
+use Rattle.spec.specs.declared.refusal.Refusal.{Refusal}
+use Rattle.spec.specs.Refusals.{Check, Answer, told, check, other_output, answer, lent}
 
--- the length of the line's text
-abbrev pub line_told : Line → Answer ℕ
-line_told (Length n) = accepted n
-line_told (Refused n) = refused n
+-- the length of the line's text, or the refusal's number
+abbrev pub line_told : Result ℕ Refusal → Answer ℕ
+line_told = told (λ n. n)
 
 -- 7 for an output of another length than 21 bytes for each number and one for the line's end
 unfoldable pub line_checks : List ℕ → ℕ → List Check

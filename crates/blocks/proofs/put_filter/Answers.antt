@@ -1,17 +1,16 @@
--- `blocks::put_filter` meets its contract: the column list is put behind the row list, which stays.
+-- `blocks::put_filter` meets its contract: the column list is put behind the row list.
 -- Assumes nothing.
-use mathlib.Core.Path.{◌≡◌, ap, ◌∙◌}
-use lib.ListN.{length}
-use borrow.Author.Rules.{rules}
+use Rattle.std.proofs.Common.{◌≡◌, ◌++◌, length, ap, ap₂, ◌∙◌, rules}
 use Rattle.blocks.specs.Given.{given, block_of}
-use Rattle.blocks.proofs.Standing.{same_list, own_block}
+use Rattle.blocks.proofs.Standing.{both_put, given_block}
 use Rattle.blocks.proofs.put_filter.Goals as goal
 
 pub returns : goal.returns
-unfolding given
+unfolding block_of
 returns c =
-    let rows = same_list 0 _ _ (λ k h. c.put_list-2.ensures.1 k h) ∙ c.put_list.ensures.0 in
-    let stands : given c.put_list-2.new.block ≡ c.args.filter =
-    λ i. record { rows = rows i; columns = c.put_list-2.ensures.0 i } in
-    let size : length c.put_list-2.new.block ≡ 98 = search rules in
-    (own_block _ size ∙ ap block_of stands, stands)
+    let filter = c.args.filter in
+    let rows : length c.put_list.new.bytes ≡ 49 = search rules in
+    let columns : length c.put_list-2.new.bytes ≡ 49 = search rules in
+    let block : length c.args.block.now ≡ 98 = search rules in
+    let put = both_put _ _ c.args.block.now rows columns block ∙ ap₂ ◌++◌ c.put_list.ensures c.put_list-2.ensures in
+    (put, ap given put ∙ given_block filter (search rules) (search rules))

@@ -4,7 +4,7 @@ use mathlib.Core.Path.{sym, ap, ◌∙◌}
 use Rattle.spec.specs.Refusals.{size_checks}
 use Rattle.laws.proofs.Refusals.{read_refused, read_accepted, none_both, recipe_numbered, written_not}
 use Rattle.filter.specs.Answers.{size_told}
-use Rattle.filter.proofs.Refusal.{known, number_is}
+use Rattle.filter.proofs.Measuring.{known, number_is}
 use Rattle.difference.proofs.Planning.{pair_first, pair_sides}
 use Rattle.difference.proofs.difference.Goals as goal
 

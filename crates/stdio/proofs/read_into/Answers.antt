@@ -19,6 +19,6 @@ joined a k n xs ys within fits =
 pub loop-count-preserved : goal.loop-count-preserved
 loop-count-preserved g c =
     let loop = c.loop-count in
-    let more = c.read_some-more in
-    let all = joined loop.count (length loop.bytes - loop.count) more.result.count loop.bytes more.new.bytes (omega arith) more.ensures.bound in
-    (search rules, search rules, subst (Consumes _ _) (search rules) (Consumes-trans _ _ _ _ _ loop.invariant.2 more.ensures.read))
+    let some = c.in-Ok in
+    let all = joined loop.count (length loop.bytes - loop.count) some.more loop.bytes c.read_some.new.bytes (omega arith) some.ensures.bound.0 in
+    (search rules, subst (Consumes _ _) all (Consumes-trans _ _ _ _ _ loop.invariant.1 some.ensures.read.0))

@@ -16,7 +16,7 @@ use Rattle.spec.specs.Gray.{places, same_gray, same_leftover}
 use Rattle.laws.proofs.Slices.{length_between}
 use Rattle.laws.proofs.Refusals.{Accepted, is_accepted_picture}
 use Rattle.filter.specs.declared.checks.Measures.{Measures}
-use Rattle.filter.proofs.Refusal.{Known}
+use Rattle.filter.proofs.Measuring.{Known}
 use Rattle.laws.proofs.Alone.{Light, rows_light, columns_light}
 use Rattle.stream.specs.declared.calls.State.{State}
 use Rattle.stream.specs.declared.calls.Started.{Started}

@@ -14,7 +14,7 @@ use Rattle.spec.specs.Refusals.{first, size_checks, full_size}
 use Rattle.laws.proofs.Slices.{front_lent}
 use Rattle.laws.proofs.Refusals.{Sized, is_sized, picture_passed}
 use Rattle.filter.specs.declared.checks.Measures.{Measures}
-use Rattle.filter.proofs.Refusal.{Known}
+use Rattle.filter.proofs.Measuring.{Known}
 use Rattle.rows.proofs.Taking.{Grown, grown}
 use Rattle.blur.proofs.Answering.{blur_pixels, blur_output, blur_leftovers, blur_cells, blur_none, blur_not, blur_all}
 use Rattle.blur.proofs.same.sized.Goals as goal

@@ -7,7 +7,7 @@ use Rattle.spec.specs.Recipe.{recipe}
 use Rattle.spec.specs.Picture.{picture}
 use Rattle.spec.specs.Refusals.{first, reading_checks}
 use Rattle.laws.proofs.Refusals.{answer_refused}
-use Rattle.filter.proofs.Refusal.{Known, known, number_is}
+use Rattle.filter.proofs.Measuring.{Known, known, number_is}
 use Rattle.direct.proofs.Reading.{Inside, is_inside, told_same}
 use Rattle.direct.proofs.points.point_sum.Lts
 use Rattle.direct.proofs.points.point_sum.Reads

@@ -1,13 +1,10 @@
--- `filter::checks::box_order` meets its contract, by the test on the way.
+-- `filter::checks::box_order` meets its contract.
 -- Assumes nothing.
+use native.Mathlib.Omega.{arith}
 use borrow.Author.Rules.{rules}
 use Rattle.spec.specs.Recipe.{box_order}
 use Rattle.filter.proofs.checks.box_order.Goals as goal
 
-pub returns-then-n-eq0 : goal.returns-then-n-eq0
+pub returns : goal.returns
 unfolding box_order
-returns-then-n-eq0 c = search rules
-
-pub returns-else-n-eq0 : goal.returns-else-n-eq0
-unfolding box_order
-returns-else-n-eq0 c = search rules
+returns c = (search rules, omega (arith, c.from.ensures, c.saturating_sub.ensures, c.ranges.n.fits))

@@ -1,34 +1,45 @@
--- What `search` does not find of `checks::survey`.
-use mathlib.Core.Path.{refl, ap, ◌∙◌}
+-- `filter::checks::survey` meets its contract: a width more adds its reach, and multiplies the weight.
+-- Assumes nothing.
+use mathlib.Core.Path.{ap, ◌∙◌}
 use Prim.Native.Nat.{◌+◌, ◌*◌, ◌^◌, min}
+use native.Mathlib.Omega.{arith}
 use borrow.Author.Rules.{rules}
-use Rattle.spec.specs.Words.{product}
-use Rattle.spec.specs.Recipe.{widths, box_order, order, weight}
-use Rattle.filter.proofs.Widths.{summed_none, within, summed_more, passed, summed_all, capped_more}
+use lib.Seq.{take_all}
+use Rattle.spec.specs.Words.{product, total}
+use Rattle.spec.specs.Recipe.{box_order, order, weight}
+use Rattle.laws.proofs.Boxes.{boxes_all, boxes_few}
+use Rattle.filter.proofs.Widths.{summed_none, summed_more, summed_all, capped_more}
 use Rattle.filter.proofs.checks.survey.Goals as goal
 
-pub loop-i-init : goal.loop-i-init
+pub loop-n-init : goal.loop-n-init
 unfolding weight product
-loop-i-init c = (summed_none box_order 254 c.args.list _ refl, search rules)
+loop-n-init c = record { reach = summed_none box_order 254 _; held = search rules }
 
-pub loop-i-preserved : goal.loop-i-preserved
-loop-i-preserved c =
-    let now = c.loop-i in
-    let s = now.invariant.0 in
-    let n = c.width_at-n in
-    let order = c.box_order in (
-      summed_more box_order 254 c.args.list _ now.i s n.result order.result (search rules) n.ensures order.ensures.0 order.ensures.1,
-      capped_more c.args.gain (2 ^ 44 + 1) (widths c.args.list) now.i now.found.gain n.result c.times.result
-          (within box_order 254 c.args.list _ now.i s (search rules)) now.invariant.1 n.ensures c.times.ensures,
-    )
+pub overflow_add-found : goal.overflow_add-found
+overflow_add-found c =
+    let few = boxes_few c.args.list _ c.boxes-n-items.ensures in
+    record { fits = omega (arith, c.loop-n.invariant.reach.small, c.loop-n-test.true, few, c.box_order.ensures.1) }
+
+pub times-requires : goal.times-requires
+times-requires c = omega (arith, c.loop-n.invariant.held)
+
+pub loop-n-preserved : goal.loop-n-preserved
+loop-n-preserved c =
+    let now = c.loop-n in
+    let ns = c.boxes-n-items.result.now in
+    let order = c.box_order.ensures in
+    record {
+      reach = summed_more box_order 254 ns now.n-index now.invariant.reach c.box_order.result c.loop-n-test.true order.0 order.1;
+      held =
+          capped_more c.args.gain (2 ^ 44 + 1) ns now.n-index now.found.gain c.times.result c.loop-n-test.true now.invariant.held c.times.ensures;
+    }
 
 pub returns : goal.returns
 unfolding order
 returns c =
-    let now = c.loop-i in
-    let list = c.args.list in (
-      summed_all box_order 254 list _ now.i now.invariant.0 c.loop-i-test.false,
-      now.invariant.1
-          ∙ ap (λ ws. min (c.args.gain * weight ws) (2 ^ 44 + 1))
-          (passed box_order 254 list _ now.i now.invariant.0 c.loop-i-test.false),
+    let now = c.loop-n in
+    let ns = c.boxes-n-items.result.now in
+    let all = boxes_all c.args.list ns c.boxes-n-items.ensures c.requires.0 in (
+      summed_all box_order 254 ns now.n-index now.invariant.reach c.loop-n-test.false ∙ ap (total box_order) all,
+      now.invariant.held ∙ ap (λ ws. min (c.args.gain * weight ws) (2 ^ 44 + 1)) (take_all now.n-index ns c.loop-n-test.false ∙ all),
     )

@@ -1,77 +1,68 @@
--- What `search` does not find of `coefficients::convolve`.
-use mathlib.Core.Path.{◌≡◌, sym, ap, ap₂, ◌∙◌}
-use mathlib.Core.List.{List, [], ◌∷◌}
-use Prim.Native.Nat.{ℕ, suc, ◌-◌, ◌^◌, ◌≤◌, ◌<◌}
-use native.Mathlib.Omega.{arith}
-use borrow.Author.Rules.{rules}
+-- `filter::coefficients::convolve` meets its contract: each width is one box filter more on the coefficients of those before it.
+-- Assumes nothing.
+use mathlib.Core.Path.{refl, sym, ap, ◌∙◌}
+use mathlib.Core.List.{List, []}
+use Prim.Native.Nat.{ℕ, ◌^◌, ◌≤◌, ◌<◌}
+use native.Mathlib.Nat.{le_trans, le_of_eq}
+use lib.ListN.{length, take}
+use lib.Seq.{take_all}
 use Rattle.spec.specs.Words.{tab, sum}
 use Rattle.spec.specs.Recipe.{widths, weight, kernel}
-use Rattle.laws.proofs.Kernels.{at, Holds, at_kernel, kernel_sum, tab_holds, holds_tab, totals_rise, totals_box}
-use Rattle.laws.proofs.Lists.{product_back}
+use Rattle.laws.proofs.Kernels.{at, Holds, kernel_sum, tab_holds, holds_tab, totals_rise, totals_box}
+use Rattle.laws.proofs.Sequences.{boxed as boxed_of}
+use Rattle.laws.proofs.Cascades.{at_kernel_more}
+use Rattle.laws.proofs.Lists.{product_front}
 use Rattle.laws.proofs.Sums.{sum_agree}
-use Rattle.filter.proofs.Widths.{length_widths, widths_on}
-use lib.ListN.{drop_of_length-le, length, drop}
-use native.Mathlib.Nat.{le_trans, le_of_eq}
+use Rattle.laws.proofs.Boxes.{boxes_all}
 use Rattle.filter.proofs.coefficients.convolve.Goals as goal
 
-pub loop-i-init : goal.loop-i-init
-loop-i-init c =
-    let list = c.args.list in
+pub loop-n-init : goal.loop-n-init
+loop-n-init c =
     let first = c.impulse.ensures in
-    let done : drop list.count (widths list) ≡ [] = drop_of_length-le (widths list) (le_of_eq (length_widths list)) in (
-      search rules,
-      search rules,
-      λ k h.
-          ap (λ x. at x k) first
-          ∙ tab_holds _ (at (kernel [])) k (rw (← first) h)
-          ∙ ap (λ ws. at (kernel ws) k) (sym done),
-    )
+    record {
+      long = refl;
+      holds = λ k h. ap (λ x. at x k) first ∙ tab_holds _ (at (kernel [])) k (rw (← first) h);
+    }
 
 -- the coefficients so far add up to the largest weight at most
-bounded : (ws : List ℕ) (i : ℕ) (out : List ℕ) → 0 < weight ws → weight ws ≤ 2 ^ 44 → Holds (at (kernel (drop i ws))) out
+bounded : (ws : List ℕ) (i : ℕ) (out : List ℕ) → 0 < weight ws → weight ws ≤ 2 ^ 44 → Holds (at (kernel (take i ws))) out
     → sum (length out) (at out) ≤ 2 ^ 44
 unfolding weight
 bounded ws i out p q h =
-    le_trans (le_of_eq (sum_agree (at out) (at (kernel (drop i ws))) (length out) h))
-    (le_trans (kernel_sum (drop i ws) (length out)) (le_trans (product_back i ws p) q))
+    le_trans (le_of_eq (sum_agree (at out) (at (kernel (take i ws))) (length out) h))
+    (le_trans (kernel_sum (take i ws) (length out)) (le_trans (product_front i ws p) q))
 
 pub accumulate-requires : goal.accumulate-requires
 accumulate-requires c =
-    let turn = c.loop-i in
-    bounded (widths c.args.list) turn.i turn.out c.requires.1 c.requires.2 turn.invariant.2
+    let turn = c.loop-n in
+    let all = boxes_all c.args.list _ c.boxes-n-items.ensures c.requires.0 in
+    bounded (c.boxes-n-items.result.now) turn.n-index turn.out (rw all c.requires.1) (rw all c.requires.2) turn.invariant.holds
 
 pub difference-requires : goal.difference-requires
 difference-requires c =
-    let turn = c.loop-i in
-    let list = c.args.list in
-    totals_rise (at (kernel (drop turn.i (widths list)))) turn.out turn.invariant.2 _ c.accumulate.ensures c.places.result
+    let turn = c.loop-n in
+    totals_rise (at (kernel (take turn.n-index c.boxes-n-items.result.now))) turn.out turn.invariant.holds _ c.accumulate.ensures _
 
-pub loop-i-preserved : goal.loop-i-preserved
-loop-i-preserved c =
-    let turn = c.loop-i in
-    let list = c.args.list in
-    let n = c.places in
+pub loop-n-preserved : goal.loop-n-preserved
+loop-n-preserved c =
+    let turn = c.loop-n in
+    let ns = c.boxes-n-items.result.now in
     let totals = c.accumulate in
     let boxed = c.difference in
-    let e : turn.i ≡ suc (turn.i - 1) = omega arith in
-    let more : n.result ∷ drop turn.i (widths list) ≡ drop (turn.i - 1) (widths list) =
-    ap₂ ◌∷◌ (n.ensures ∙ c.width_at.ensures) (ap (λ j. drop j (widths list)) e)
-    ∙ sym (widths_on list (turn.i - 1) (omega arith)) in (
-      boxed.auto.out ∙ totals.auto.out ∙ turn.invariant.0,
-      search rules,
-      λ k h.
-          totals_box (at (kernel (drop turn.i (widths list)))) turn.out turn.invariant.2 _ _ n.result totals.ensures boxed.ensures k h
-          ∙ sym (at_kernel n.result (drop turn.i (widths list)) k)
-          ∙ ap (λ ws. at (kernel ws) k) more,
-    )
-
-pub shape_of-out : goal.shape_of-out
-shape_of-out c = c.loop-i.invariant.0 ∙ c.impulse.auto.out
+    record {
+      long = boxed.auto.out ∙ totals.auto.out ∙ turn.invariant.long;
+      holds =
+          λ k h.
+          totals_box (at (kernel (take turn.n-index ns))) turn.out turn.invariant.holds _ _ _ totals.ensures boxed.ensures k h
+          ∙ ap (λ n. boxed_of n (at (kernel (take turn.n-index ns))) k) c.from.ensures
+          ∙ sym (at_kernel_more ns turn.n-index k c.loop-n-test.true);
+    }
 
 pub returns : goal.returns
 returns c =
-    let turn = c.loop-i in
-    let list = c.args.list in
-    let e : turn.i ≡ 0 = omega arith in
-    holds_tab (at (kernel (widths list))) turn.out (λ k h. turn.invariant.2 k h ∙ ap (λ j. at (kernel (drop j (widths list))) k) e)
-    ∙ ap (λ n. tab n (at (kernel (widths list)))) (turn.invariant.0 ∙ c.impulse.auto.out)
+    let turn = c.loop-n in
+    let ns = widths c.args.list in
+    let all = boxes_all c.args.list _ c.boxes-n-items.ensures c.requires.0 in
+    let done = take_all turn.n-index c.boxes-n-items.result.now c.loop-n-test.false ∙ all in
+    holds_tab (at (kernel ns)) turn.out (λ k h. turn.invariant.holds k h ∙ ap (λ ws. at (kernel ws) k) done)
+    ∙ ap (λ n. tab n (at (kernel ns))) (turn.invariant.long ∙ c.impulse.auto.out)

@@ -1,16 +1,14 @@
--- `filter::coefficients::convolve` meets its contract. From the last width to the first, the slice holds the coefficients of the
--- widths from i on.
+-- After so many widths the slice holds their coefficients.
 -- Assumes nothing.
 use mathlib.Core.Path.{◌≡◌}
-use Prim.Native.Nat.{◌≤◌}
-use Rattle.spec.specs.Recipe.{widths, kernel}
+use lib.ListN.{length, take}
+use Rattle.spec.specs.Recipe.{kernel}
 use Rattle.laws.proofs.Kernels.{at, Holds}
-use lib.ListN.{length, drop}
 use Rattle.filter.proofs.coefficients.convolve.Given as goal
 
-abbrev pub invariant-loop-i : goal.invariant-loop-i
-invariant-loop-i l =
-    (length l.out ≡ length l.initial.out) × (l.i ≤ l.list.count) × Holds (at (kernel (drop l.i (widths l.list)))) l.out
-
-abbrev pub decreases-loop-i : goal.decreases-loop-i
-decreases-loop-i l = l.i
+abbrev pub invariant-loop-n : goal.invariant-loop-n
+invariant-loop-n l =
+    record {
+      long : length l.out ≡ length l.initial.out;
+      holds : Holds (at (kernel (take l.n-index l.n-items))) l.out;
+    }

@@ -7,7 +7,7 @@ use Rattle.filter.proofs.sizes.bad_sides.Goals as goal
 
 pub returns-then-bad_side : goal.returns-then-bad_side
 unfolding bad_sides
-returns-then-bad_side c = ap (λ b. b || bad_side c.args.height) (sym c.if-bad_side.true ∙ c.bad_side.ensures)
+returns-then-bad_side c = c.if-bad_side.true ∙ ap (λ b. b || bad_side c.args.height) (sym c.if-bad_side.true ∙ c.bad_side.ensures)
 
 pub returns-else-bad_side : goal.returns-else-bad_side
 unfolding bad_sides

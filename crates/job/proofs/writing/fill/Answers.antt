@@ -8,7 +8,7 @@ use lib.ListN.{length}
 use Rattle.spec.specs.Recipe.{recipe, widths}
 use Rattle.spec.specs.Picture.{picture}
 use Rattle.laws.proofs.Refusals.{is_accepted_picture}
-use Rattle.filter.proofs.Refusal.{accepted_counts}
+use Rattle.filter.proofs.Measuring.{accepted_counts}
 use Rattle.filter.proofs.Widths.{length_widths}
 use Rattle.job.proofs.Answering.{length_by_counts}
 use Rattle.job.proofs.Appending.{Begins, begins_first, begins_more, begins_all, head_of, sides_of, parts}

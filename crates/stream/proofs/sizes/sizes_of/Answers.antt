@@ -6,7 +6,7 @@ use Rattle.spec.specs.Picture.{Sides, full_sides}
 use Rattle.spec.specs.Stream.{stream_cells}
 use Rattle.spec.specs.Refusals.{first, size_checks}
 use Rattle.laws.proofs.Refusals.{read_refused, read_accepted, is_sized, grown_most}
-use Rattle.filter.proofs.Refusal.{accepted_counts}
+use Rattle.filter.proofs.Measuring.{accepted_counts}
 use Rattle.stream.proofs.sizes.sizes_of.Goals as goal
 
 pub cascade_cells-rows-requires : goal.cascade_cells-rows-requires

@@ -1,6 +1,7 @@
 -- The checks of a recipe, by the counts, the two reaches and the weight held at one more than the largest.
 -- Assumes nothing.
 use mathlib.Core.Path.{◌≡◌, refl, sym, ap, ap₂, ◌∙◌}
+use mathlib.Core.Logic.{◌⊎◌, inl, inr}
 use mathlib.Core.Bool.{Bool, true, false, cond, ◌||◌}
 use mathlib.Core.List.{List, [], ◌∷◌, ◌++◌}
 use Prim.Native.Nat.{ℕ, zero, suc, ◌+◌, ◌*◌, ◌^◌, ◌≤◌, ◌<◌, min}
@@ -11,13 +12,16 @@ use lib.Dec.{eqb, ltb}
 use borrow.Author.Tests.{lt-ltb, le-ltb, eq-eqb, ne_eqb, ltb-false}
 use Rattle.spec.specs.declared.Filter.{Filter}
 use Rattle.spec.specs.Recipe.{Recipe, recipe, widths, order, weight, gain}
-use Rattle.spec.specs.Refusals.{too_long, zero_width, too_far, too_heavy, Check, check, first, either, accepted, refused, answer, recipe_checks}
+use Rattle.spec.specs.declared.refusal.Refusal.{Refusal}
+use Rattle.spec.specs.Refusals.{too_long, zero_width, too_far, too_heavy, Check, check, first, answer, told, number, recipe_checks}
 use Rattle.laws.proofs.Lists.{length_part, product_zero}
-use Rattle.laws.proofs.Refusals.{Accepted, is_accepted, first_front, first_then, recipe_numbered, answer_refused, answer_accepted}
+use Rattle.laws.proofs.Refusals.{Accepted, is_accepted, first_front, first_then, recipe_numbered}
+use Rattle.laws.proofs.Results.{number_not_zero, told_err, told_ok, err_told, ok_told}
+use Rattle.std.specs.Prelude.{Ok, Err}
 use Rattle.laws.proofs.Numbers.{zero_factor, cap_times}
 use Rattle.filter.specs.declared.checks.Measures.{Measures}
-use Rattle.filter.proofs.Widths.{length_widths}
-use Rattle.filter.specs.Measured.{measured, refused_by}
+use Rattle.laws.proofs.Boxes.{length_widths}
+use Rattle.filter.specs.Measured.{measured}
 
 -- 1 goes by the counts
 by_counts : (f : Filter) → too_long (recipe f) ≡ (ltb 48 f.rows.count || ltb 48 f.columns.count)
@@ -30,14 +34,18 @@ long : (r : Recipe) → too_long r ≡ true → first (recipe_checks r) ≡ 1
 unfolding first recipe_checks check
 long r e = rw e refl
 
-pub long_rows : (f : Filter) → 48 < f.rows.count → first (recipe_checks (recipe f)) ≡ 1
+long_rows : (f : Filter) → 48 < f.rows.count → first (recipe_checks (recipe f)) ≡ 1
 long_rows f h = long (recipe f) (by_counts f ∙ ap (λ b. b || ltb 48 f.columns.count) (lt-ltb 48 f.rows.count h))
 
-pub long_columns : (f : Filter) → f.rows.count ≤ 48 → 48 < f.columns.count → first (recipe_checks (recipe f)) ≡ 1
+long_columns : (f : Filter) → f.rows.count ≤ 48 → 48 < f.columns.count → first (recipe_checks (recipe f)) ≡ 1
 long_columns f g h = long (recipe f) (by_counts f ∙ ap₂ ◌||◌ (le-ltb 48 f.rows.count g) (lt-ltb 48 f.columns.count h))
 
 pub counts_short : (f : Filter) → f.rows.count ≤ 48 → f.columns.count ≤ 48 → too_long (recipe f) ≡ false
 counts_short f g h = by_counts f ∙ ap₂ ◌||◌ (le-ltb 48 f.rows.count g) (le-ltb 48 f.columns.count h)
+
+pub long_either : (f : Filter) → (48 < f.rows.count) ⊎ ((f.rows.count ≤ 48) × (48 < f.columns.count)) → first (recipe_checks (recipe f)) ≡ 1
+long_either f (inl h) = long_rows f h
+long_either f (inr h) = long_columns f h.0 h.1
 
 -- the weight, multiplied up over the rows and then over the columns
 pub gain_capped : (f : Filter) (a b : ℕ) → a ≡ min (1 * weight (widths f.rows)) (2 ^ 44 + 1)
@@ -77,12 +85,6 @@ short r g e p =
     ∙ zero_capped g (gain r) p in
     rw (e, zeros, heavy_capped g (gain r) p) refl
 
--- what a refused and an accepted recipe answer
-pub refused_so : (r : Recipe) (n : ℕ) → (n ≡ 0 → ⊥) → first (recipe_checks r) ≡ n → refused_by n ≡ measured r
-unfolding measured either
-refused_so r zero h e = absurd (h refl)
-refused_so r (suc n) h e = rw e refl
-
 last_of_three : (a b c : Bool) → ◌≡◌ {A = ℕ} (cond a 2 (cond b 3 (cond c 4 0))) 0 → c ≡ false
 last_of_three a b false e = refl
 last_of_three true b true e = absurd (omega arith)
@@ -96,23 +98,15 @@ light w a b g p e =
     let l : g ≤ 2 ^ 44 = ltb-false (2 ^ 44) g (last_of_three (eqb g 0) (ltb 255 a || ltb 255 b) (ltb (2 ^ 44) g) e) in
     omega arith
 
-pub accepted_so : (r : Recipe) (m : Measures) → m.refusal ≡ 0 → m.gain ≡ min (gain r) (2 ^ 44 + 1)
+pub accepted_so : (r : Recipe) (m : Measures) → m.gain ≡ min (gain r) (2 ^ 44 + 1)
     → m.row_order ≡ order r.rows → m.column_order ≡ order r.columns
-    → too_long r ≡ false → verdict_of (order r.rows) (order r.columns) m.gain ≡ 0 → m ≡ measured r
-unfolding measured either
-accepted_so r m z g a b s v =
+    → too_long r ≡ false → verdict_of (order r.rows) (order r.columns) m.gain ≡ 0
+    → told (λ (x : Measures). x) (Ok m) ≡ answer (recipe_checks r) (measured r)
+accepted_so r m g a b s v =
     let e : first (recipe_checks r) ≡ 0 = short r m.gain s g ∙ v in
     let w = light (gain r) (order r.rows) (order r.columns) m.gain g v in
-    rw e (λ i. record { refusal = z i; gain = w i; row_order = a i; column_order = b i })
-
--- the number that measuring answers is the recipe's
-pub number_is : (r : Recipe) (m : Measures) → m ≡ measured r → m.refusal ≡ first (recipe_checks r)
-unfolding measured either
-number_is r m e = ap (λ (x : Measures). x.refusal) e ∙ go (first (recipe_checks r))
-  where
-    go : (k : ℕ) → (either k (record { refusal = 0; gain = gain r; row_order = order r.rows; column_order = order r.columns }) (refused_by k)).refusal ≡ k
-    go zero = refl
-    go (suc k) = refl
+    told_ok (λ (x : Measures). x) (recipe_checks r) (measured r) m e
+    (λ i. record { gain = w i; row_order = a i; column_order = b i })
 
 -- what a caller knows of a recipe that measures as accepted
 pub record Known (r : Recipe) (m : Measures) : Type 0 where
@@ -122,37 +116,42 @@ pub record Known (r : Recipe) (m : Measures) : Type 0 where
   pub column_reach : m.column_order ≡ order r.columns
   pub accepted : Accepted r
 
-pub known : (r : Recipe) (m : Measures) → m ≡ measured r → m.refusal ≡ 0 → Known r m
-unfolding measured either
-known r m s e =
-    let z : first (recipe_checks r) ≡ 0 = sym (number_is r m s) ∙ e in
-    let is = rw z at s in
+pub known : (r : Recipe) (m : Measures) → told (λ (x : Measures). x) (Ok m) ≡ answer (recipe_checks r) (measured r) → Known r m
+known r m s =
+    let is = ok_told (λ (x : Measures). x) (recipe_checks r) (measured r) m s in
     record {
-      none = z;
-      weight = ap (λ (x : Measures). x.gain) is;
-      row_reach = ap (λ (x : Measures). x.row_order) is;
-      column_reach = ap (λ (x : Measures). x.column_order) is;
-      accepted = is_accepted r z;
+      none = is.0;
+      weight = ap (λ (x : Measures). x.gain) is.1;
+      row_reach = ap (λ (x : Measures). x.row_order) is.1;
+      column_reach = ap (λ (x : Measures). x.column_order) is.1;
+      accepted = is_accepted r is.0;
     }
 
--- The checks of a call that begin with a recipe's.
-module _ (r : Recipe) (m : Measures) (s : m ≡ measured r) where
-  pub measured_refused : (ds : List Check) → (m.refusal ≡ 0 → ⊥) → first (recipe_checks r ++ ds) ≡ m.refusal
-  measured_refused ds h = first_front (recipe_checks r) ds m.refusal (sym (number_is r m s)) h
+pub measured_err : (r : Recipe) (e : Refusal) → told (λ (x : Measures). x) (Err e) ≡ answer (recipe_checks r) (measured r)
+    → first (recipe_checks r) ≡ number e
+measured_err r e s = err_told (λ (x : Measures). x) (recipe_checks r) (measured r) e s
 
-  pub measured_then : m.refusal ≡ 0 → (b : Bool) (n : ℕ) → first (recipe_checks r ++ check b n ∷ []) ≡ cond b n 0
-  measured_then e b n = first_then (recipe_checks r) b n (recipe_numbered r) (sym (number_is r m s) ∙ e)
+-- The checks of a call that begin with a recipe's: refused by one of those, by one condition b more, or the value.
+module _ (r : Recipe) where
+  pub measured_refused : (e : Refusal) → told (λ (x : Measures). x) (Err e) ≡ answer (recipe_checks r) (measured r)
+      → (ds : List Check) → first (recipe_checks r ++ ds) ≡ number e
+  measured_refused e s ds =
+      first_front (recipe_checks r) ds (number e) (measured_err r e s) (number_not_zero e)
 
-  -- the answer: by the recipe, by one condition b more, or the value
-  pub told_refused : {A : Type 0} (ds : List Check) (a : A) → (m.refusal ≡ 0 → ⊥) → refused m.refusal ≡ answer (recipe_checks r ++ ds) a
-  told_refused ds a h = sym (answer_refused (recipe_checks r ++ ds) a m.refusal (measured_refused ds h) h)
+  module _ (m : Measures) (s : told (λ (x : Measures). x) (Ok m) ≡ answer (recipe_checks r) (measured r)) where
+    pub measured_then : (b : Bool) (n : ℕ) → first (recipe_checks r ++ check b n ∷ []) ≡ cond b n 0
+    measured_then b n = first_then (recipe_checks r) b n (recipe_numbered r) (known r m s).none
 
-  pub told_then : {A : Type 0} (b : Bool) (n : ℕ) (a : A) → m.refusal ≡ 0 → b ≡ true → (n ≡ 0 → ⊥)
-      → refused n ≡ answer (recipe_checks r ++ check b n ∷ []) a
-  told_then b n a e p h = sym (answer_refused (recipe_checks r ++ check b n ∷ []) a n (measured_then e b n ∙ ap (λ x. cond x n 0) p) h)
+    pub told_then : {A B : Type 0} (f : A → B) (b : Bool) (e : Refusal) (v : B) → b ≡ true
+        → told f (Err e) ≡ answer (recipe_checks r ++ check b (number e) ∷ []) v
+    told_then f b e v p =
+        told_err f (recipe_checks r ++ check b (number e) ∷ []) v e
+        (measured_then b (number e) ∙ ap (λ x. cond x (number e) 0) p)
 
-  pub told_accepted : {A : Type 0} (b : Bool) (n : ℕ) (a : A) → m.refusal ≡ 0 → b ≡ false → accepted a ≡ answer (recipe_checks r ++ check b n ∷ []) a
-  told_accepted b n a e p = sym (answer_accepted (recipe_checks r ++ check b n ∷ []) a (measured_then e b n ∙ ap (λ x. cond x n 0) p))
+    pub told_accepted : {A B : Type 0} (f : A → B) (b : Bool) (n : ℕ) (a : A) (v : B) → b ≡ false → f a ≡ v
+        → told f (Ok a) ≡ answer (recipe_checks r ++ check b n ∷ []) v
+    told_accepted f b n a v p q =
+        told_ok f (recipe_checks r ++ check b n ∷ []) v a (measured_then b n ∙ ap (λ x. cond x n 0) p) q
 
 -- the counts of an accepted recipe
 pub accepted_counts : (f : Filter) → Accepted (recipe f) → (f.rows.count ≤ 48) × (f.columns.count ≤ 48)
