@@ -2,7 +2,7 @@
 // a filter's two lists.
 ghost use Rattle.std.specs.Prelude.{◌≡◌, ◌*◌, ◌^◌, ◌≤◌, ◌<◌, length};
 ghost use Rattle.spec.specs.Recipe.{weight, recipe};
-ghost use Rattle.spec.specs.Picture.{pictured};
+ghost use Rattle.spec.specs.Picture.{largest_gray, Within, pictured};
 ghost use Rattle.laws.proofs.Kernels.{at, Holds};
 ghost use Rattle.laws.proofs.Cascades.{spread, cascaded};
 ghost use Rattle.laws.proofs.Refusals.{Accepted};
@@ -46,8 +46,8 @@ fn turns(boxes: &[u8], after: Buffer) -> Buffer
     ensures { result ≡ turned_by boxes.now after }
 {
     let mut holder = after;
-    for width in boxes {
-        holder = holder.across(*width);
+    for &width in boxes {
+        holder = holder.across(width);
     }
     holder
 }
@@ -88,13 +88,19 @@ impl<'a> Buffers<'a> {
             × (image.height * full_width ≤ length self.old.out.now) }
         ensures same { SameBuffers self.old self.new }
         ensures holder { self.new.holder ≡ self.old.holder }
-        ensures picture { Below (length self.old.out.now) (flat (pictured image.entry) full_width) (held self.new) }
+        ensures places { Below (length self.old.out.now) (flat (pictured image.entry) full_width) (held self.new) }
+        ensures bytes { Within largest_gray (pictured image.entry) }
     {
+        let Image {
+            width,
+            height,
+            pixels,
+        } = image;
         let out = &mut *self.out;
         let work = &mut *self.work;
         match self.holder {
-            Buffer::Out => grow(image, full_width, out),
-            Buffer::Work => grow(image, full_width, work),
+            Buffer::Out => grow(width, height, full_width, pixels, out),
+            Buffer::Work => grow(width, height, full_width, pixels, work),
         }
     }
 
@@ -126,8 +132,8 @@ impl<'a> Buffers<'a> {
         ensures holder { self.new.holder ≡ turned_by boxes.now self.old.holder }
         ensures sums { Below (length self.old.out.now) (cascaded step boxes.now (at (held self.old))) (held self.new) }
     {
-        for n in boxes {
-            self.turn(step, usize::from(*n));
+        for &n in boxes {
+            self.turn(step, usize::from(n));
         }
     }
 

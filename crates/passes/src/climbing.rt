@@ -1,11 +1,11 @@
 // Document 02's fading ladder: blurs that widen level by level. The code climbs: level 1 is worked from
 // the picture, and each further level from the exact sums of the level below, by its one new width on
 // each axis.
-ghost use Rattle.std.specs.Prelude.{◌≡◌, ◌+◌, ◌-◌, ◌*◌, ◌^◌, ◌≤◌, ◌<◌, length};
+ghost use Rattle.std.specs.Prelude.{◌≡◌, ◌*◌, ◌^◌, ◌≤◌, ◌<◌, length};
 ghost use Rattle.spec.specs.Recipe.{widths, recipe};
-ghost use Rattle.spec.specs.Picture.{picture, pictured, full_width_of, full};
+ghost use Rattle.spec.specs.Picture.{pictured, full_width_of, full};
 ghost use Rattle.spec.specs.Ladder.{on_axes, ladder as ladderOf};
-ghost use Rattle.spec.specs.Refusals.{bad_level, full_size};
+ghost use Rattle.spec.specs.Refusals.{bad_level, outcome, full_size};
 ghost use Rattle.laws.proofs.Kernels.{at};
 ghost use Rattle.laws.proofs.Refusals.{Accepted, AcceptedPicture};
 ghost use Rattle.laws.proofs.Flat.{filtered};
@@ -16,8 +16,7 @@ ghost use Rattle.passes.specs.Climbed.{axes_of, Climbed};
 
 use crate::cascades::{Buffers, begins_in};
 use crate::checked_size;
-use filter::FullSize;
-use spec::{Cascade, Filter, Image};
+use spec::{Cascade, Filter, Image, Refusal};
 
 // The axes that a ladder widens on.
 #[derive(Clone, Copy, Debug, PartialEq, Eq)]
@@ -131,34 +130,18 @@ fn bad_level(level: usize) -> bool
 pub fn ladder(
     level: usize,
     axes: Axes,
-    width: usize,
-    height: usize,
-    pixels: &[u8],
+    image: Image,
     out: &mut [u64],
     cells: &mut [u64],
-) -> u8
-    ensures { let p = picture width height pixels.now in
-        Climbed (axes_of axes) level p out.old cells.old result out.new cells.new }
+) -> Result<(), Refusal>
+    ensures { Climbed (axes_of axes) level (pictured image.entry) out.old cells.old (outcome result) out.new cells.new }
 {
     if bad_level(level) {
-        return 16;
+        return Err(Refusal::BadLevel);
     }
     let size = out.len();
     let filter = level_filter(axes, level);
-    let image = Image {
-        width,
-        height,
-        pixels,
-    };
-    let answer = checked_size(filter, width, height, pixels.len(), size, cells.len());
-    match answer {
-        FullSize::Refused(number) => number,
-        FullSize::Sides {
-            width: full_width,
-            ..
-        } => {
-            climb(level, axes, image, full_width, out, &mut cells[..size]);
-            0
-        }
-    }
+    let sides = checked_size(filter, image, size, cells.len())?;
+    climb(level, axes, image, sides.width, out, &mut cells[..size]);
+    Ok(())
 }

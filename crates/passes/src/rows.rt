@@ -13,8 +13,8 @@ fn rise(n: usize, src: &[u64], dst: &mut [u64]) -> u64
 {
     let stop = n.min(src.len());
     let mut total: u64 = 0;
-    for (k, x) in src[..stop].iter().enumerate() {
-        total += *x;
+    for (k, &x) in src[..stop].iter().enumerate() {
+        total += x;
         dst[k] = total;
     }
     total
@@ -29,8 +29,8 @@ fn slide(n: usize, first: u64, src: &[u64], dst: &mut [u64])
 {
     let start = n.min(src.len());
     let mut total = first;
-    for (k, x) in src[start..].iter().enumerate() {
-        total = total + *x - src[k];
+    for (k, &x) in src[start..].iter().enumerate() {
+        total = total + x - src[k];
         dst[start + k] = total;
     }
 }
