@@ -8,7 +8,7 @@ use native.Mathlib.Omega.{arith}
 use lib.ListN.{length, set, take, drop, get_or-append}
 use lib.Seq.{get_or-set_same, get_or-set_other, get_or-append_right, get_or-take, length-take-le}
 use Rattle.laws.proofs.Kernels.{at}
-use Rattle.laws.proofs.Slices.{length_between, get_d_between, length_came}
+use Rattle.laws.proofs.Slices.{get_d_between, length_came}
 use Rattle.passes.specs.Steps.{Below}
 
 -- what stands in a list after a store

@@ -1,5 +1,5 @@
 -- The two buffers that the passes go between, and which of them holds the picture.
-use Rattle.std.specs.Prelude.{◌≡◌, cond, List, [], ◌∷◌, ℕ, eqb, length}
+use Rattle.std.specs.Prelude.{◌≡◌, cond, List, ℕ, eqb, length, fold}
 use Rattle.spec.specs.Recipe.{Recipe}
 use Rattle.passes.specs.declared.cascades.Buffer.{Buffer}
 use Rattle.passes.specs.declared.cascades.Buffer.TheVariants.{Out, Work}
@@ -33,9 +33,8 @@ other Work = Out
 unfoldable pub turned : ℕ → Buffer → Buffer
 turned n b = cond (eqb n 1) b (other b)
 
-unfoldable pub turned_by : List ℕ → Buffer → Buffer
-turned_by [] b = b
-turned_by (n ∷ ns) b = turned_by ns (turned n b)
+abbrev pub turned_by : List ℕ → Buffer → Buffer
+turned_by ns b = fold (λ x n. turned n x) b ns
 
 -- so by all widths of a recipe
 abbrev pub turned_all : Recipe → Buffer → Buffer

@@ -45,11 +45,9 @@ impl Buffer {
 fn turns(boxes: &[u8], after: Buffer) -> Buffer
     ensures { result ≡ turned_by boxes.now after }
 {
-    let mut holder = after;
-    for &width in boxes {
-        holder = holder.across(width);
-    }
-    holder
+    boxes
+        .iter()
+        .fold(after, |holder, &width| holder.across(width))
 }
 
 // Where the picture has to begin for a filter's passes to end in `out`.
@@ -96,11 +94,9 @@ impl<'a> Buffers<'a> {
             height,
             pixels,
         } = image;
-        let out = &mut *self.out;
-        let work = &mut *self.work;
         match self.holder {
-            Buffer::Out => grow(width, height, full_width, pixels, out),
-            Buffer::Work => grow(width, height, full_width, pixels, work),
+            Buffer::Out => grow(width, height, full_width, pixels, self.out),
+            Buffer::Work => grow(width, height, full_width, pixels, self.work),
         }
     }
 

@@ -1,7 +1,7 @@
 -- `passes::checked_size` meets its contract: the answer of `filter::full_size`, and then check by check.
 -- Assumes nothing.
 use mathlib.Core.Path.{◌≡◌, sym, ap, ap₂, ◌∙◌}
-use Prim.Native.Nat.{ℕ, ◌*◌, ◌≤◌}
+use Prim.Native.Nat.{◌*◌, ◌≤◌}
 use native.Mathlib.Nat.{le_trans, le_of_eq, mul-le-mul}
 use native.Mathlib.Omega.{arith}
 use Rattle.std.specs.Prelude.{Ok}

@@ -1,7 +1,6 @@
 -- What `search` does not find of `passes::passes`: the answer of `checked_size`, case by case, and then that of `run`.
 use mathlib.Core.Path.{sym, ap, ◌∙◌}
 use borrow.Author.Rules.{rules}
-use lib.ListN.{length}
 use Rattle.std.proofs.lemmas.Result.{err_from_is_err_and}
 use Rattle.spec.specs.Recipe.{recipe}
 use Rattle.spec.specs.Picture.{Sides, pictured, full_sides}

@@ -1,21 +1,17 @@
 -- `passes::climbing::climb` meets its contract: the picture is placed so that the climb ends in out, and after it the exact sums of the
 -- level stand there.
 -- Assumes nothing.
-use mathlib.Core.Path.{◌≡◌, sym, ap, subst, ◌∙◌}
+use mathlib.Core.Path.{◌≡◌, sym, ap, ◌∙◌}
 use native.Mathlib.Omega.{arith}
 use borrow.Author.Rules.{rules}
 use lib.ListN.{length}
 use Rattle.spec.specs.Picture.{largest_gray, pictured, full}
 use Rattle.spec.specs.Ladder.{ladder}
 use Rattle.laws.proofs.Kernels.{at}
-use Rattle.laws.proofs.Refusals.{Accepted}
 use Rattle.passes.specs.Buffers.{held, present, turned_all}
 use Rattle.passes.specs.Climbed.{axes_of}
 use Rattle.passes.proofs.Whole.{picture_room, row_short, picture_small, picture_done}
 use Rattle.passes.proofs.climbing.climb.Goals as goal
-
-pub begins_in-requires : goal.begins_in-requires
-begins_in-requires c = subst Accepted (sym c.level_filter.ensures) c.requires.2.recipe
 
 pub place-requires : goal.place-requires
 place-requires c =

@@ -9,7 +9,7 @@ use Rattle.laws.proofs.Kernels.{at}
 use Rattle.laws.proofs.Refusals.{Accepted}
 use Rattle.laws.proofs.Flat.{filtered}
 use Rattle.laws.proofs.Ladder.{rungs_before}
-use Rattle.passes.specs.Steps.{Below, Small}
+use Rattle.passes.specs.Steps.{Small}
 use Rattle.passes.specs.Buffers.{held, turned_all}
 use Rattle.passes.specs.Climbed.{axes_of}
 use Rattle.passes.proofs.Buffers.{still_paired, same_twice}

@@ -1,7 +1,7 @@
 -- What `search` does not find of `columns::column_pass`.
 use mathlib.Core.Path.{◌≡◌, sym, ap, ◌∙◌}
 use mathlib.Core.List.{List, ◌++◌}
-use Prim.Native.Nat.{ℕ, ◌+◌, ◌-◌, ◌*◌, ◌/◌, ◌%◌, ◌≤◌, ◌<◌, min}
+use Prim.Native.Nat.{ℕ, ◌+◌, ◌*◌, ◌/◌, ◌%◌, ◌≤◌, ◌<◌, min}
 use native.Mathlib.Nat.{one-mul}
 use native.Mathlib.Omega.{arith}
 use lib.ListN.{length, take, drop, length-append, length-drop, get_or-append}
@@ -10,7 +10,7 @@ use Rattle.std.proofs.lemmas.Grind.{div_ceil_times}
 use Rattle.laws.proofs.Numbers.{row_fits}
 use Rattle.laws.proofs.Kernels.{at}
 use Rattle.laws.proofs.Cascades.{spread}
-use Rattle.passes.specs.Steps.{Below, Ready}
+use Rattle.passes.specs.Steps.{Below}
 use Rattle.passes.proofs.Running.{row_within, spread_first, row_before, still_ready}
 use Rattle.passes.proofs.columns.column_pass.Goals as goal
 

@@ -1,6 +1,6 @@
 -- `passes::columns::column_pass` meets its contract: after j rows the sums stand in them.
 -- Assumes nothing.
-use Prim.Native.Nat.{◌*◌, ◌<◌, min}
+use Prim.Native.Nat.{◌*◌, min}
 use lib.ListN.{length}
 use Rattle.laws.proofs.Kernels.{at}
 use Rattle.laws.proofs.Cascades.{spread}

@@ -1,6 +1,5 @@
 -- What `search` does not find of `grown::copy_row`.
-use mathlib.Core.Path.{◌≡◌, sym, ap, ◌∙◌}
-use Prim.Native.Nat.{ℕ, ◌+◌, ◌≤◌, ◌<◌}
+use mathlib.Core.Path.{sym, ap, ◌∙◌}
 use native.Mathlib.Omega.{arith}
 use lib.ListN.{length, get_or-eq_default, get_or-replicate}
 use Rattle.laws.proofs.Kernels.{at}

@@ -1,10 +1,10 @@
 -- What `search` does not find of `rows::rise`.
-use mathlib.Core.Path.{◌≡◌, sym, ap, ◌∙◌}
-use Prim.Native.Nat.{◌+◌, min}
+use mathlib.Core.Path.{◌≡◌, sym, ◌∙◌}
+use Prim.Native.Nat.{◌+◌}
 use native.Mathlib.Omega.{arith}
-use lib.ListN.{length, get_or, take}
+use lib.ListN.{get_or, take}
 use lib.Seq.{length-take-le, get_or-take}
-use Rattle.laws.proofs.Sequences.{behind, behind_before}
+use Rattle.laws.proofs.Sequences.{behind_before}
 use Rattle.laws.proofs.Kernels.{at}
 use Rattle.laws.proofs.Cascades.{spread}
 use Rattle.passes.proofs.Writing.{below_more}
@@ -49,11 +49,3 @@ loop-k-preserved c =
       total = next c.before ∙ sym (behind_next f turn.k);
       sums = below_more f turn.k turn.dst _ turn.invariant.sums (omega (arith, long, c.requires.size)) (next c.before);
     }
-
-pub returns : goal.returns
-returns c =
-    let f = spread 1 c.args.n (at c.args.src.now) in
-    let turn = c.loop-k in
-    let long = length-take-le c.min-stop.result c.args.src.now (omega arith) in
-    let e : turn.k ≡ min c.args.n (length c.args.src.now) = omega (arith, long) in
-    (turn.invariant.total ∙ ap (behind f 1) e, λ k h. turn.invariant.sums k (omega (arith, e)))

@@ -1,6 +1,6 @@
 -- What `search` does not find of `rows::slide`.
 use mathlib.Core.Path.{◌≡◌, sym, ap, ◌∙◌}
-use Prim.Native.Nat.{◌+◌, ◌-◌, min}
+use Prim.Native.Nat.{◌+◌, ◌-◌}
 use native.Mathlib.Omega.{arith}
 use lib.ListN.{length, get_or, take, drop}
 use Rattle.laws.proofs.Sequences.{behind}
@@ -13,12 +13,6 @@ use Rattle.passes.proofs.rows.slide.Lts
 use Rattle.passes.proofs.rows.slide.Reads
 use Rattle.passes.proofs.rows.slide.Tie
 use Rattle.passes.proofs.rows.slide.Goals as goal
-
-pub loop-k-init : goal.loop-k-init
-loop-k-init c =
-    let f = spread 1 c.args.n (at c.args.src.now) in
-    let e : min c.args.n (length c.args.src.now) ≡ c.min-start.result + 0 = omega arith in
-    record { within = omega arith; total = c.requires.1 ∙ ap (behind f 1) e; sums = λ k h. c.requires.2 k (omega arith) }
 
 -- what comes in at the place, and the sum there: with what goes out it is the sum before and what comes in
 coming : (c : Lts.After-row_known Tie.the-claims Reads.Pre Reads.Post goal.the-invariant-loop-k goal.the-decreases-loop-k) →
@@ -71,6 +65,3 @@ loop-k-preserved c =
       total = e ∙ sym (behind_next f here) ∙ ap (behind f 1) (sym more);
       sums = λ k h. below_more f here turn.dst _ turn.invariant.sums (omega (arith, c.requires.0.size)) e k (omega arith);
     }
-
-pub returns : goal.returns
-returns c = λ k h. c.loop-k.invariant.sums k (omega (arith, c.requires.0.size))

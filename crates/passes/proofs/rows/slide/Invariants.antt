@@ -1,7 +1,7 @@
 -- `passes::rows::slide` meets its contract: up to start + k the sums stand in dst, and total is the last of them.
 -- Assumes nothing.
 use mathlib.Core.Path.{◌≡◌}
-use Prim.Native.Nat.{◌+◌, ◌≤◌, min}
+use Prim.Native.Nat.{◌+◌, ◌≤◌}
 use lib.ListN.{length}
 use Rattle.laws.proofs.Sequences.{behind}
 use Rattle.laws.proofs.Kernels.{at}

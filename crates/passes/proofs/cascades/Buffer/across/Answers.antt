@@ -1,6 +1,5 @@
 -- `passes::cascades::Buffer::across` meets its contract, by the test on the way.
 -- Assumes nothing.
-use mathlib.Core.Path.{◌∙◌}
 use borrow.Author.Tests.{eq-eqb, ne_eqb}
 use Rattle.passes.specs.Buffers.{turned}
 use Rattle.passes.proofs.cascades.Buffer.across.Goals as goal

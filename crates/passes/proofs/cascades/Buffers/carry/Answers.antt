@@ -5,13 +5,13 @@ use mathlib.Core.List.{List}
 use Prim.Native.Nat.{ℕ, ◌<◌}
 use native.Mathlib.Omega.{arith}
 use lib.ListN.{length}
-use Rattle.spec.specs.Recipe.{recipe, widths, weight}
+use Rattle.spec.specs.Recipe.{recipe, weight}
 use Rattle.laws.proofs.Kernels.{at}
 use Rattle.laws.proofs.Cascades.{cascaded}
 use Rattle.laws.proofs.Exact.{rows_pos, columns_pos}
 use Rattle.passes.specs.Steps.{Below, Small}
 use Rattle.passes.specs.Buffers.{held, turned_by}
-use Rattle.passes.proofs.Buffers.{all_boxes, still_paired, same_twice}
+use Rattle.passes.proofs.Buffers.{all_boxes, still_paired}
 use Rattle.passes.proofs.Whole.{rows_small, columns_small, columns_carry}
 use Rattle.passes.proofs.cascades.Buffers.carry.Goals as goal
 
