@@ -14,10 +14,10 @@ use Rattle.laws.proofs.Refusals.{Accepted}
 use Rattle.laws.proofs.Flat.{filtered}
 use Rattle.laws.proofs.Joining.{filtered_agree, filtered_joined}
 use Rattle.laws.proofs.Ladder.{rung_at, rungs_before, next_rung, step_accepted, fewer_accepted}
-use Rattle.passes.specs.declared.cascades.Buffer.{Buffer}
+use Rattle.passes.specs.declared.buffers.Buffer.{Buffer}
 use Rattle.passes.specs.Steps.{Below, Small}
-use Rattle.passes.specs.Buffers.{turned_all}
-use Rattle.passes.proofs.Buffers.{turned_joined}
+use Rattle.passes.specs.Turned.{turned_all}
+use Rattle.passes.proofs.Turning.{turned_joined}
 
 -- a recipe makes no value smaller
 filtered_grows : (r : Recipe) (W : ℕ) (f : ℕ → ℕ) (k : ℕ) → 0 < gain r → f k ≤ filtered r W f k

@@ -12,11 +12,11 @@ use Rattle.laws.proofs.Slices.{get_d_between, length_came}
 use Rattle.passes.specs.Steps.{Below}
 
 -- what stands in a list after a store
-pub at_same : (l : List ℕ) (i v : ℕ) → i < length l → at (set l i v) i ≡ v
+at_same : (l : List ℕ) (i v : ℕ) → i < length l → at (set l i v) i ≡ v
 unfolding at
 at_same l i v h = get_or-set_same l i v 0 h
 
-pub at_other : (l : List ℕ) (i j v : ℕ) → (j ≡ i → ⊥) → at (set l i v) j ≡ at l j
+at_other : (l : List ℕ) (i j v : ℕ) → (j ≡ i → ⊥) → at (set l i v) j ≡ at l j
 unfolding at
 at_other l i j v h = get_or-set_other l i j v 0 h
 

@@ -1,4 +1,4 @@
 pub mod Passed
 pub mod Climbed
 pub mod Steps
-pub mod Buffers
+pub mod Turned

@@ -1,5 +1,5 @@
-// The two buffers that passes go between, and what goes over them: the widths of a list in turn, and of
-// a filter's two lists.
+// What goes over the two buffers: the picture, the widths of a list in turn, and those of a filter's two
+// lists.
 ghost use Rattle.std.specs.Prelude.{◌≡◌, ◌*◌, ◌^◌, ◌≤◌, ◌<◌, length};
 ghost use Rattle.spec.specs.Recipe.{weight, recipe};
 ghost use Rattle.spec.specs.Picture.{largest_gray, Within, pictured};
@@ -8,19 +8,13 @@ ghost use Rattle.laws.proofs.Cascades.{spread, cascaded};
 ghost use Rattle.laws.proofs.Refusals.{Accepted};
 ghost use Rattle.laws.proofs.Flat.{flat, filtered};
 ghost use Rattle.passes.specs.Steps.{Below, Small, Ready};
-ghost use Rattle.passes.specs.Buffers.{other, turned, turned_by, turned_all, held, SameBuffers, Paired};
+ghost use Rattle.passes.specs.Turned.{other, turned, turned_by, turned_all, held, SameBuffers};
 
+use crate::buffers::{Buffer, Buffers};
 use crate::columns::column_pass;
 use crate::grown::grow;
 use crate::rows::row_pass;
 use spec::{Filter, Image};
-
-// One of the two buffers.
-#[derive(Clone, Copy)]
-pub(crate) enum Buffer {
-    Out,
-    Work,
-}
 
 impl Buffer {
     fn other(self) -> Buffer
@@ -71,18 +65,10 @@ fn pass(step: usize, n: usize, src: &[u64], dst: &mut [u64])
     }
 }
 
-// The two buffers, and which of them holds the picture.
-#[derive(Drop)]
-pub(crate) struct Buffers<'a> {
-    pub(crate) out: &'a mut [u64],
-    pub(crate) work: &'a mut [u64],
-    pub(crate) holder: Buffer,
-}
-
 impl<'a> Buffers<'a> {
     // The grown picture in the buffer that is to hold it.
     pub(crate) fn place(&mut self, image: Image, full_width: usize)
-        requires { Paired self.old × (length image.pixels.now ≡ image.width * image.height) × (0 < full_width) × (image.width ≤ full_width)
+        requires { (length image.pixels.now ≡ image.width * image.height) × (0 < full_width) × (image.width ≤ full_width)
             × (image.height * full_width ≤ length self.old.out.now) }
         ensures same { SameBuffers self.old self.new }
         ensures holder { self.new.holder ≡ self.old.holder }
@@ -102,7 +88,7 @@ impl<'a> Buffers<'a> {
 
     // One width, from the buffer that holds the picture into the other. A width of 1 is no pass.
     fn turn(&mut self, step: usize, n: usize)
-        requires { Paired self.old × Ready step n (held self.old) self.old.out.now }
+        requires { Ready step n (held self.old) self.old.out.now }
         ensures same { SameBuffers self.old self.new }
         ensures holder { self.new.holder ≡ turned n self.old.holder }
         ensures sums { Below (length self.old.out.now) (spread step n (at (held self.old))) (held self.new) }
@@ -122,7 +108,7 @@ impl<'a> Buffers<'a> {
 
     // The widths of a list in turn.
     fn cascade(&mut self, boxes: &[u8], step: usize)
-        requires { Paired self.old × (0 < weight boxes.now) × (0 < step) × (255 * step ≤ 2 ^ 32)
+        requires { (0 < weight boxes.now) × (0 < step) × (255 * step ≤ 2 ^ 32)
             × Small (length self.old.out.now) (cascaded step boxes.now (at (held self.old))) }
         ensures same { SameBuffers self.old self.new }
         ensures holder { self.new.holder ≡ turned_by boxes.now self.old.holder }
@@ -135,7 +121,7 @@ impl<'a> Buffers<'a> {
 
     // A filter's row widths and then its column widths, in rows of full_width places.
     pub(crate) fn carry(&mut self, filter: Filter, full_width: usize)
-        requires { Paired self.old × Accepted (recipe filter) × (0 < full_width) × (255 * full_width ≤ 2 ^ 32)
+        requires { Accepted (recipe filter) × (0 < full_width) × (255 * full_width ≤ 2 ^ 32)
             × Small (length self.old.out.now) (filtered (recipe filter) full_width (at (held self.old))) }
         ensures same { SameBuffers self.old self.new }
         ensures holder { self.new.holder ≡ turned_all (recipe filter) self.old.holder }

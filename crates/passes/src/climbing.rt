@@ -11,10 +11,11 @@ ghost use Rattle.laws.proofs.Refusals.{Accepted, AcceptedPicture};
 ghost use Rattle.laws.proofs.Flat.{filtered};
 ghost use Rattle.laws.proofs.Ladder.{rung_at};
 ghost use Rattle.passes.specs.Steps.{Below, Small};
-ghost use Rattle.passes.specs.Buffers.{turned_all, held, SameBuffers, Paired};
+ghost use Rattle.passes.specs.Turned.{turned_all, held, SameBuffers};
 ghost use Rattle.passes.specs.Climbed.{axes_of, Climbed};
 
-use crate::cascades::{Buffers, begins_in};
+use crate::buffers::Buffers;
+use crate::cascades::begins_in;
 use crate::checked_size;
 use spec::{Cascade, Filter, Image, Refusal};
 
@@ -81,7 +82,7 @@ fn rung_at(axes: Axes, i: usize) -> Filter
 // by its whole recipe, and each further level by its one new width from the sums of the level below.
 fn levels(level: usize, axes: Axes, full_width: usize, buffers: &mut Buffers)
     requires { let r = ladderOf (axes_of axes) level in
-        (0 < level) × (level ≤ 8) × Accepted r × Paired buffers.old × (0 < full_width) × (255 * full_width ≤ 2 ^ 32)
+        (0 < level) × (level ≤ 8) × Accepted r × (0 < full_width) × (255 * full_width ≤ 2 ^ 32)
         × Small (length buffers.old.out.now) (filtered r full_width (at (held buffers.old))) }
     ensures same { SameBuffers buffers.old buffers.new }
     ensures holder { buffers.new.holder ≡ turned_all (ladderOf (axes_of axes) level) buffers.old.holder }

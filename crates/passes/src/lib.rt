@@ -12,13 +12,15 @@ ghost use Rattle.laws.proofs.Refusals.{AcceptedPicture};
 ghost use Rattle.filter.specs.Answers.{size_told};
 ghost use Rattle.passes.specs.Passed.{Passed};
 
+mod buffers;
 mod cascades;
 mod climbing;
 mod columns;
 mod grown;
 mod rows;
 
-use crate::cascades::{Buffers, begins_in};
+use crate::buffers::Buffers;
+use crate::cascades::begins_in;
 pub use climbing::{Axes, ladder};
 use filter::Sides;
 use spec::{Filter, Image, Refusal};

@@ -7,14 +7,14 @@ use lib.ListN.{length}
 use Rattle.spec.specs.Recipe.{recipe}
 use Rattle.spec.specs.Picture.{largest_gray, pictured, full}
 use Rattle.laws.proofs.Kernels.{at}
-use Rattle.passes.specs.Buffers.{held, present, turned_all}
+use Rattle.passes.specs.Turned.{held, present, turned_all}
 use Rattle.passes.proofs.Whole.{picture_room, row_short, picture_small, picture_done}
 use Rattle.passes.proofs.run.Goals as goal
 
 pub place-requires : goal.place-requires
 place-requires c =
     let room = picture_room _ _ c.requires.0 c.args.full_width (length c.args.out.now) c.requires.1 c.requires.2 in
-    (c.requires.3, c.requires.0.size, room.0, room.1, room.2)
+    (c.requires.0.size, room.0, room.1, room.2)
 
 pub carry-requires : goal.carry-requires
 carry-requires c =
@@ -28,12 +28,11 @@ carry-requires c =
     let all = c.requires.2 in
     let t = c.place.ensures in
     let b = c.place.new.self in (
-      omega (arith, t.same.work_length, t.same.out_length, c.requires.3),
       a.recipe,
       (picture_room r p a W size wide all).0,
       row_short r p a W size wide all,
       λ k h. picture_small r p a W size wide all (held b) t.places largest_gray (omega arith) t.bytes k
-          (omega (arith, t.same.out_length)),
+          (omega (arith, t.same.long)),
     )
 
 pub returns : goal.returns
@@ -46,6 +45,6 @@ returns c =
     let ends : held b ≡ b.out.now = ap (λ h. present h b.out.now b.work.now) (last.holder ∙ ap (turned_all (recipe args.filter)) t.holder ∙ c.begins_in.ensures) in
     let done : b.out.now ≡ full (recipe args.filter) (pictured args.image) =
     picture_done _ _ c.requires.0 args.full_width size c.requires.1 c.requires.2 (held c.place.new.self) t.places b.out.now
-    (λ k h. ap (λ l. at l k) (sym ends) ∙ last.sums k (omega (arith, t.same.out_length)))
-    (last.same.out_length ∙ t.same.out_length) in
+    (λ k h. ap (λ l. at l k) (sym ends) ∙ last.sums k (omega (arith, t.same.long)))
+    (last.same.long ∙ t.same.long) in
     search rules

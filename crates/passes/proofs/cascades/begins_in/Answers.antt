@@ -2,9 +2,9 @@
 -- Assumes nothing.
 use mathlib.Core.Path.{ap, ◌∙◌}
 use Rattle.spec.specs.Recipe.{recipe, widths}
-use Rattle.passes.specs.declared.cascades.Buffer.TheVariants.{Out}
-use Rattle.passes.specs.Buffers.{turned_by}
-use Rattle.passes.proofs.Buffers.{turned_by_twice, all_boxes}
+use Rattle.passes.specs.declared.buffers.Buffer.TheVariants.{Out}
+use Rattle.passes.specs.Turned.{turned_by}
+use Rattle.passes.proofs.Turning.{turned_by_twice, all_boxes}
 use Rattle.passes.proofs.cascades.begins_in.Goals as goal
 
 pub returns : goal.returns

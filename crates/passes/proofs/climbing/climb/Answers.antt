@@ -8,7 +8,7 @@ use lib.ListN.{length}
 use Rattle.spec.specs.Picture.{largest_gray, pictured, full}
 use Rattle.spec.specs.Ladder.{ladder}
 use Rattle.laws.proofs.Kernels.{at}
-use Rattle.passes.specs.Buffers.{held, present, turned_all}
+use Rattle.passes.specs.Turned.{held, present, turned_all}
 use Rattle.passes.specs.Climbed.{axes_of}
 use Rattle.passes.proofs.Whole.{picture_room, row_short, picture_small, picture_done}
 use Rattle.passes.proofs.climbing.climb.Goals as goal
@@ -16,7 +16,7 @@ use Rattle.passes.proofs.climbing.climb.Goals as goal
 pub place-requires : goal.place-requires
 place-requires c =
     let room = picture_room _ _ c.requires.2 c.args.full_width (length c.args.out.now) c.requires.3 c.requires.4 in
-    (c.requires.5, c.requires.2.size, room.0, room.1, room.2)
+    (c.requires.2.size, room.0, room.1, room.2)
 
 pub levels-requires : goal.levels-requires
 levels-requires c =
@@ -33,11 +33,10 @@ levels-requires c =
       c.requires.0,
       c.requires.1,
       a.recipe,
-      omega (arith, t.same.work_length, t.same.out_length, c.requires.5),
       (picture_room r p a W size wide all).0,
       row_short r p a W size wide all,
       λ k h. picture_small r p a W size wide all (held b) t.places largest_gray (omega arith) t.bytes k
-          (omega (arith, t.same.out_length)),
+          (omega (arith, t.same.long)),
     )
 
 pub returns : goal.returns
@@ -52,6 +51,6 @@ returns c =
     let ends : held b ≡ b.out.now = ap (λ h. present h b.out.now b.work.now) (last.holder ∙ ap (turned_all r) t.holder ∙ begins) in
     let done : b.out.now ≡ full r (pictured args.image) =
     picture_done _ _ c.requires.2 args.full_width size c.requires.3 c.requires.4 (held c.place.new.self) t.places b.out.now
-    (λ k h. ap (λ l. at l k) (sym ends) ∙ last.sums k (omega (arith, t.same.out_length)))
-    (last.same.out_length ∙ t.same.out_length) in
+    (λ k h. ap (λ l. at l k) (sym ends) ∙ last.sums k (omega (arith, t.same.long)))
+    (last.same.long ∙ t.same.long) in
     search rules

@@ -10,9 +10,9 @@ use Rattle.laws.proofs.Refusals.{Accepted}
 use Rattle.laws.proofs.Flat.{filtered}
 use Rattle.laws.proofs.Ladder.{rungs_before}
 use Rattle.passes.specs.Steps.{Small}
-use Rattle.passes.specs.Buffers.{held, turned_all}
+use Rattle.passes.specs.Turned.{held, turned_all}
 use Rattle.passes.specs.Climbed.{axes_of}
-use Rattle.passes.proofs.Buffers.{still_paired, same_twice}
+use Rattle.passes.proofs.Turning.{same_twice}
 use Rattle.passes.proofs.Levels.{up_accepted, up_small, rung_accepted, rung_small, rung_done, rung_turned}
 use Rattle.passes.proofs.climbing.levels.Goals as goal
 
@@ -27,12 +27,11 @@ carry-requires c =
     let most : args.level + 2 ≤ 10 = omega (arith, q.1) in
     let up : 3 ≤ args.level + 2 = omega (arith, q.0) in
     let is = sym c.level_filter.ensures in (
+      subst Accepted is (up_accepted a args.full_width (at (held b)) size (args.level + 2) most q.2 q.5 3 up),
       q.3,
-      subst Accepted is (up_accepted a args.full_width (at (held b)) size (args.level + 2) most q.2 q.6 3 up),
       q.4,
-      q.5,
       subst (λ r. Small size (filtered r args.full_width (at (held b)))) is
-          (up_small a args.full_width (at (held b)) size (args.level + 2) most q.2 q.6 3 up),
+          (up_small a args.full_width (at (held b)) size (args.level + 2) most q.2 q.5 3 up),
     )
 
 pub loop-i-init : goal.loop-i-init
@@ -63,14 +62,13 @@ carry-requires-in-loop-i c =
     let is = sym c.rung_at.ensures in
     let more = c.loop-i-test.true in
     let v = turn.invariant in (
-      still_paired b turn.buffers v.same q.3,
-      subst Accepted is (rung_accepted a args.full_width (at (held b)) size (args.level + 2) most q.2 q.6 turn.i more),
+      subst Accepted is (rung_accepted a args.full_width (at (held b)) size (args.level + 2) most q.2 q.5 turn.i more),
+      q.3,
       q.4,
-      q.5,
       subst (λ r. Small (length turn.buffers.out.now) (filtered r args.full_width (at now))) is
           (λ k h.
-          rung_small a args.full_width (at (held b)) size (args.level + 2) most q.2 q.6 turn.i more now v.sums k
-          (omega (arith, v.same.out_length))),
+          rung_small a args.full_width (at (held b)) size (args.level + 2) most q.2 q.5 turn.i more now v.sums k
+          (omega (arith, v.same.long))),
     )
 
 pub loop-i-preserved : goal.loop-i-preserved
@@ -91,7 +89,7 @@ loop-i-preserved c =
       holder = rw (add-one turn.i) (t.holder ∙ ap (λ r. turned_all r turn.buffers.holder) is ∙ rung_turned a turn.i room b.holder turn.buffers.holder v.holder);
       sums = rw (add-one turn.i)
           (rung_done a W (at (held b)) (length b.out.now) turn.i room now v.sums _
-          (λ k h. t.sums k (omega (arith, v.same.out_length)) ∙ ap (λ r. filtered r W (at now) k) is));
+          (λ k h. t.sums k (omega (arith, v.same.long)) ∙ ap (λ r. filtered r W (at now) k) is));
     }
 
 pub returns-clause-holder : goal.returns-clause-holder

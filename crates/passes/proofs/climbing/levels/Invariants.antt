@@ -8,7 +8,7 @@ use Rattle.laws.proofs.Kernels.{at}
 use Rattle.laws.proofs.Flat.{filtered}
 use Rattle.laws.proofs.Ladder.{rungs_before}
 use Rattle.passes.specs.Steps.{Below}
-use Rattle.passes.specs.Buffers.{turned_all, held, SameBuffers}
+use Rattle.passes.specs.Turned.{turned_all, held, SameBuffers}
 use Rattle.passes.specs.Climbed.{axes_of}
 use Rattle.passes.proofs.climbing.levels.Given as goal
 

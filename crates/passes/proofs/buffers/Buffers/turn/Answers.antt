@@ -1,10 +1,10 @@
--- What `search` does not find of `cascades::Buffers::turn`.
+-- What `search` does not find of `buffers::Buffers::turn`.
 use mathlib.Core.Path.{sym, ap, ◌∙◌}
 use borrow.Author.Tests.{eq-eqb, ne_eqb}
 use Rattle.laws.proofs.Kernels.{at}
 use Rattle.laws.proofs.Cascades.{spread, spread_unit}
-use Rattle.passes.specs.Buffers.{turned, held}
-use Rattle.passes.proofs.cascades.Buffers.turn.Goals as goal
+use Rattle.passes.specs.Turned.{turned, held}
+use Rattle.passes.proofs.buffers.Buffers.turn.Goals as goal
 
 pub returns-then-n-eq1-clause-holder : goal.returns-then-n-eq1-clause-holder
 unfolding turned

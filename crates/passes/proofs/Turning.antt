@@ -15,11 +15,11 @@ use Rattle.spec.specs.Recipe.{Recipe, weight, joined}
 use Rattle.laws.proofs.Lists.{factor_pos, product_append}
 use Rattle.laws.proofs.Kernels.{at}
 use Rattle.laws.proofs.Cascades.{spread, cascaded, cascaded_agree, cascaded_grows}
-use Rattle.passes.specs.declared.cascades.Buffer.{Buffer}
-use Rattle.passes.specs.declared.cascades.Buffer.TheVariants.{Out, Work}
-use Rattle.passes.specs.declared.cascades.Buffers.{Buffers}
+use Rattle.passes.specs.declared.buffers.Buffer.{Buffer}
+use Rattle.passes.specs.declared.buffers.Buffer.TheVariants.{Out, Work}
+use Rattle.passes.specs.declared.buffers.Buffers.{Buffers}
 use Rattle.passes.specs.Steps.{Below, Small}
-use Rattle.passes.specs.Buffers.{other, turned, turned_by, turned_all, present, held, Paired, SameBuffers}
+use Rattle.passes.specs.Turned.{other, turned, turned_by, turned_all, present, held, SameBuffers}
 
 other_twice : (b : Buffer) → other (other b) ≡ b
 other_twice Out = refl
@@ -44,7 +44,6 @@ turned_other n b = go (eqb n 1)
     go false = refl
 
 turned_by_other : (ns : List ℕ) (b : Buffer) → turned_by ns (other b) ≡ other (turned_by ns b)
-unfolding turned_by
 turned_by_other [] b = refl
 turned_by_other (n ∷ ns) b = ap (turned_by ns) (turned_other n b) ∙ turned_by_other ns (turned n b)
 
@@ -58,19 +57,16 @@ turned_by_turned ns n b = go (eqb n 1)
 
 -- a list of widths twice ends where it began
 pub turned_by_twice : (ns : List ℕ) (b : Buffer) → turned_by ns (turned_by ns b) ≡ b
-unfolding turned_by
 turned_by_twice [] b = refl
 turned_by_twice (n ∷ ns) b =
     ap (turned_by ns) (sym (turned_by_turned ns n (turned n b)) ∙ ap (turned_by ns) (turned_twice n b)) ∙ turned_by_twice ns b
 
 -- widths in two lists, one after the other and in either order, and so of two recipes
 turned_by_append : (ns ms : List ℕ) (b : Buffer) → turned_by (ns ++ ms) b ≡ turned_by ms (turned_by ns b)
-unfolding turned_by
 turned_by_append [] ms b = refl
 turned_by_append (n ∷ ns) ms b = turned_by_append ns ms (turned n b)
 
 turned_by_comm : (ns ms : List ℕ) (b : Buffer) → turned_by ns (turned_by ms b) ≡ turned_by ms (turned_by ns b)
-unfolding turned_by
 turned_by_comm [] ms b = refl
 turned_by_comm (n ∷ ns) ms b = ap (turned_by ns) (sym (turned_by_turned ms n b)) ∙ turned_by_comm ns ms (turned n b)
 
@@ -82,24 +78,20 @@ turned_joined r s b =
     ∙ ap (turned_by (r.columns ++ s.columns)) (sym (turned_by_append r.rows s.rows b))
 
 -- the picture is as long as each buffer
-pub length_held : (b : Buffers) → Paired b → length (held b) ≡ length b.out.now
-length_held b e = go b.holder
+pub length_held : (b : Buffers) → length (held b) ≡ length b.out.now
+length_held b = go b.holder
   where
     go : (h : Buffer) → length (present h b.out.now b.work.now) ≡ length b.out.now
     go Out = refl
-    go Work = e
+    go Work = b.paired
 
--- and so it stays, through one step and another
-pub still_paired : (old new : Buffers) → SameBuffers old new → Paired old → Paired new
-still_paired old new s e = s.work_length ∙ e ∙ sym s.out_length
-
+-- the same two stay the same, through one step and another
 pub same_twice : (a b c : Buffers) → SameBuffers a b → SameBuffers b c → SameBuffers a c
 same_twice a b c s t =
     record {
       out = t.out ∙ s.out;
       work = t.work ∙ s.work;
-      out_length = t.out_length ∙ s.out_length;
-      work_length = t.work_length ∙ s.work_length;
+      long = t.long ∙ s.long;
     }
 
 -- an accepted list is read whole

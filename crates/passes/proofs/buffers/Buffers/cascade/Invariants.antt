@@ -1,10 +1,10 @@
--- `passes::cascades::Buffers::cascade` meets its contract: the widths that are left lead from the picture as it is now to what all lead to.
+-- `passes::buffers::Buffers::cascade` meets its contract: the widths that are left lead from the picture as it is now to what all lead to.
 -- Assumes nothing.
 use mathlib.Core.Path.{◌≡◌}
 use lib.ListN.{length, drop}
-use Rattle.passes.specs.Buffers.{turned_by, held, SameBuffers}
-use Rattle.passes.proofs.Buffers.{Left}
-use Rattle.passes.proofs.cascades.Buffers.cascade.Given as goal
+use Rattle.passes.specs.Turned.{turned_by, held, SameBuffers}
+use Rattle.passes.proofs.Turning.{Left}
+use Rattle.passes.proofs.buffers.Buffers.cascade.Given as goal
 
 abbrev pub invariant-loop-n : goal.invariant-loop-n
 invariant-loop-n l =

@@ -1,8 +1,8 @@
--- `passes::cascades::Buffer::across` meets its contract, by the test on the way.
+-- `passes::buffers::Buffer::across` meets its contract, by the test on the way.
 -- Assumes nothing.
 use borrow.Author.Tests.{eq-eqb, ne_eqb}
-use Rattle.passes.specs.Buffers.{turned}
-use Rattle.passes.proofs.cascades.Buffer.across.Goals as goal
+use Rattle.passes.specs.Turned.{turned}
+use Rattle.passes.proofs.buffers.Buffer.across.Goals as goal
 
 pub returns-then-width-ne1 : goal.returns-then-width-ne1
 unfolding turned

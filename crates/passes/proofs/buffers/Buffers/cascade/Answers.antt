@@ -1,4 +1,4 @@
--- What `search` does not find of `cascades::Buffers::cascade`.
+-- What `search` does not find of `buffers::Buffers::cascade`.
 use mathlib.Core.Path.{◌≡◌, sym, ap, subst, ◌∙◌}
 use Prim.Native.Nat.{◌+◌, ◌*◌, ◌^◌, ◌≤◌}
 use native.Mathlib.Nat.{le_trans, mul-le-mul_right}
@@ -7,9 +7,9 @@ use lib.ListN.{length, get_or, drop, drop_of_length-le}
 use Rattle.laws.proofs.Kernels.{at}
 use Rattle.laws.proofs.Cascades.{spread, cascaded}
 use Rattle.passes.specs.Steps.{Ready}
-use Rattle.passes.specs.Buffers.{held, turned, turned_by}
-use Rattle.passes.proofs.Buffers.{length_held, still_paired, same_twice, next_width, left_more, width_pos, width_small}
-use Rattle.passes.proofs.cascades.Buffers.cascade.Goals as goal
+use Rattle.passes.specs.Turned.{held, turned, turned_by}
+use Rattle.passes.proofs.Turning.{length_held, same_twice, next_width, left_more, width_pos, width_small}
+use Rattle.passes.proofs.buffers.Buffers.cascade.Goals as goal
 
 pub turn-requires : goal.turn-requires
 turn-requires c =
@@ -23,23 +23,19 @@ turn-requires c =
     let size = length first.out.now in
     let left = turn.invariant.left in
     let e = next_width ws i (omega arith) in
-    let paired = still_paired first turn.self turn.invariant.same c.requires.0 in
-    let long = length_held turn.self paired ∙ turn.invariant.same.out_length in
+    let long = length_held turn.self ∙ turn.invariant.same.long in
     let is : c.from.result ≡ n = c.from.ensures in
-    let small : 255 * args.step ≤ 2 ^ 32 = c.requires.3 in (
-      paired,
-      subst (λ m. Ready args.step m now turn.self.out.now) (sym is)
-          (record {
-            apart = c.requires.2;
-            wide = width_pos args.step ws size (held first) i n now e left c.requires.1;
-            offsets = le_trans (mul-le-mul_right args.step (omega arith)) small;
-            size = sym (length_held turn.self paired);
-            small = λ k h. width_small args.step ws size (held first) i n now e left c.requires.1 c.requires.4 k (omega (arith, long));
-          }),
-    )
+    let small : 255 * args.step ≤ 2 ^ 32 = c.requires.2 in
+    subst (λ m. Ready args.step m now turn.self.out.now) (sym is)
+    (record {
+      apart = c.requires.1;
+      wide = width_pos args.step ws size (held first) i n now e left c.requires.0;
+      offsets = le_trans (mul-le-mul_right args.step (omega arith)) small;
+      size = sym (length_held turn.self);
+      small = λ k h. width_small args.step ws size (held first) i n now e left c.requires.0 c.requires.3 k (omega (arith, long));
+    })
 
 pub loop-n-preserved : goal.loop-n-preserved
-unfolding turned_by
 loop-n-preserved c =
     let args = c.args in
     let turn = c.loop-n in
@@ -57,11 +53,10 @@ loop-n-preserved c =
           ∙ ap (λ l. turned_by l turn.self.holder) (sym e)
           ∙ turn.invariant.holder;
       left = left_more args.step ws size (held first) i n (held turn.self) e turn.invariant.left (held c.turn.new.self)
-          (λ k h. t.sums k (omega (arith, turn.invariant.same.out_length)) ∙ ap (λ m. spread args.step m (at (held turn.self)) k) is);
+          (λ k h. t.sums k (omega (arith, turn.invariant.same.long)) ∙ ap (λ m. spread args.step m (at (held turn.self)) k) is);
     }
 
 pub returns-clause-holder : goal.returns-clause-holder
-unfolding turned_by
 returns-clause-holder c =
     let turn = c.loop-n in
     let done = drop_of_length-le c.args.boxes.now {i = turn.n-index} (omega arith) in

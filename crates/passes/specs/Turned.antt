@@ -1,9 +1,9 @@
 -- The two buffers that the passes go between, and which of them holds the picture.
 use Rattle.std.specs.Prelude.{◌≡◌, cond, List, ℕ, eqb, length, fold}
 use Rattle.spec.specs.Recipe.{Recipe}
-use Rattle.passes.specs.declared.cascades.Buffer.{Buffer}
-use Rattle.passes.specs.declared.cascades.Buffer.TheVariants.{Out, Work}
-use Rattle.passes.specs.declared.cascades.Buffers.{Buffers}
+use Rattle.passes.specs.declared.buffers.Buffer.{Buffer}
+use Rattle.passes.specs.declared.buffers.Buffer.TheVariants.{Out, Work}
+use Rattle.passes.specs.declared.buffers.Buffers.{Buffers}
 
 -- of two lists the one in a buffer
 abbrev pub present : Buffer → List ℕ → List ℕ → List ℕ
@@ -14,16 +14,11 @@ present Work a b = b
 abbrev pub held : Buffers → List ℕ
 held b = present b.holder b.out.now b.work.now
 
--- both are of one length
-abbrev pub Paired : Buffers → Type 0
-Paired b = length b.work.now ≡ length b.out.now
-
 -- the same two buffers, as long as before
 pub record SameBuffers (old new : Buffers) : Type 0 where
   pub out : new.out.ghost_name ≡ old.out.ghost_name
   pub work : new.work.ghost_name ≡ old.work.ghost_name
-  pub out_length : length new.out.now ≡ length old.out.now
-  pub work_length : length new.work.now ≡ length old.work.now
+  pub long : length new.out.now ≡ length old.out.now
 
 abbrev pub other : Buffer → Buffer
 other Out = Work
