@@ -1,5 +1,5 @@
 -- What `search` does not find of `check_both`: the first recipe's refusal, or else the second's.
-use Rattle.std.proofs.Common.{◌∙◌, sym}
+use Rattle.std.proofs.Common.{◌∙◌}
 use Rattle.std.proofs.lemmas.Result.{err_from_is_err_and}
 use Rattle.spec.specs.Recipe.{recipe}
 use Rattle.laws.proofs.Results.{number_not_zero}

@@ -1,7 +1,6 @@
 -- What `search` does not find of `tally`.
 use Rattle.std.proofs.Common.{arith}
 use Rattle.laws.proofs.Boxes.{boxes_all, boxes_few}
-use Rattle.equivalence.specs.Tally.{byte, tally_of}
 use Rattle.equivalence.proofs.Tallies.{tallied_none, tally_small, tallied_more, tallied_all}
 use Rattle.equivalence.proofs.tally.Goals as goal
 

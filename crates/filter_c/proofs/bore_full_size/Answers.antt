@@ -1,5 +1,5 @@
 -- What `search` does not find of `bore_full_size`: the answer of `filter::full_size`, case by case.
-use Rattle.std.proofs.Common.{◌≡◌, sym, ap, ◌∙◌}
+use Rattle.std.proofs.Common.{sym, ap, ◌∙◌}
 use Rattle.spec.specs.Picture.{Sides, full_sides}
 use Rattle.laws.proofs.Refusals.{lent_refused, lent_accepted, read_refused, read_accepted}
 use Rattle.filter_c.proofs.bore_full_size.Goals as goal

@@ -1,5 +1,5 @@
 -- What `search` does not find of `bore_moments`: the answer of `filter::moments`, case by case.
-use Rattle.std.proofs.Common.{◌≡◌, sym, ap, ◌∙◌}
+use Rattle.std.proofs.Common.{sym, ap, ◌∙◌}
 use Rattle.spec.specs.Gray.{ScaleCard, scale_card}
 use Rattle.laws.proofs.Refusals.{lent_refused, lent_accepted, read_refused, read_accepted}
 use Rattle.filter_c.proofs.bore_moments.Goals as goal

@@ -1,5 +1,4 @@
 -- What `search` does not find of `bore_drain`: the answer of `stream::drain`, whose state keeps the recipe.
-use Rattle.stream.specs.Calls.{drain}
 use Rattle.sums_c.specs.States.{given_state}
 use Rattle.sums_c.proofs.Keeping.{drain_keeps, drain_refused, told}
 use Rattle.sums_c.proofs.bore_drain.Goals as goal

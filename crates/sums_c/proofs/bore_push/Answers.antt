@@ -1,5 +1,4 @@
 -- What `search` does not find of `bore_push`: the answer of `stream::push`, whose state keeps the recipe.
-use Rattle.stream.specs.Calls.{push}
 use Rattle.sums_c.specs.States.{given_state}
 use Rattle.sums_c.proofs.Keeping.{push_keeps, push_refused, told}
 use Rattle.sums_c.proofs.bore_push.Goals as goal
