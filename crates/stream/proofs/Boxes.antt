@@ -87,14 +87,6 @@ module _ (n : ℕ) where
       unfolding column_stage
       column_wide h = rw (le-ltb n 2 (omega arith), ne_eqb n 2 (λ d. omega arith)) refl
 
--- a width that is neither below 2 nor 2
-pub two_less : (n : ℕ) → 2 ≤ n → (n ≡ 2 → ⊥) → 2 < n
-two_less n h d =
-    elim (dec_lt 2 n) [
-      | yes g ↦ g
-      | no g ↦ let e : n ≡ 2 = omega arith in absurd (d e)
-    ]
-
 pub cost_most : (n : ℕ) → box_cost n ≤ 2
 cost_most n =
     elim (dec_lt n 2) [
