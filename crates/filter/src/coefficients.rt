@@ -16,8 +16,9 @@ use spec::{Cascade, Refusal};
 fn impulse(out: &mut [u64])
     ensures { out.new ≡ tab (length out.old) (at (kernelOf [])) }
 {
-    for k in 0..out.len() {
-        out[k] = if k == 0 { 1 } else { 0 };
+    out.fill(0);
+    if let Some(first) = out.first_mut() {
+        *first = 1;
     }
 }
 
@@ -26,10 +27,10 @@ pub(crate) fn accumulate(out: &mut [u64])
     requires { sum (length out.old) (at out.old) ≤ 2 ^ 44 }
     ensures { out.new ≡ tab (length out.old) (running (at out.old)) }
 {
-    let mut total: u64 = 0;
-    for k in 0..out.len() {
-        total += out[k];
-        out[k] = total;
+    let mut total = 0;
+    for x in out.iter_mut() {
+        total += *x;
+        *x = total;
     }
 }
 
@@ -38,10 +39,8 @@ fn difference(out: &mut [u64], n: usize)
     requires { (k : ℕ) → k < length out.old → behind (at out.old) n k ≤ at out.old k }
     ensures { out.new ≡ tab (length out.old) (λ k. at out.old k - behind (at out.old) n k) }
 {
-    let mut k = out.len();
-    while n < k {
-        k -= 1;
-        out[k] = out[k] - out[k - n];
+    for k in (n..out.len()).rev() {
+        out[k] -= out[k - n];
     }
 }
 

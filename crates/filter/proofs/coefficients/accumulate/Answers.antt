@@ -1,56 +1,49 @@
--- What `search` does not find of `coefficients::accumulate`.
+-- `filter::coefficients::accumulate` meets its contract: what is read is what stood there, and the total with it is at most that of all.
+-- Assumes nothing.
 use mathlib.Core.Path.{◌≡◌, refl, ap, ap₂, ◌∙◌}
-use Prim.Native.Nat.{◌+◌, ◌^◌, ◌≤◌}
+use mathlib.Core.List.{List}
+use Prim.Native.Nat.{ℕ, ◌+◌, ◌^◌, ◌≤◌, ◌<◌}
+use native.Mathlib.Nat.{le_refl, le_trans}
+use native.Mathlib.Numerals.{add-one}
 use native.Mathlib.Omega.{arith}
 use borrow.Author.Rules.{rules}
+use lib.ListN.{length, get_or}
 use Rattle.spec.specs.Words.{sum}
 use Rattle.laws.proofs.Sums.{sum_grows}
 use Rattle.laws.proofs.Sequences.{running}
 use Rattle.laws.proofs.Kernels.{at}
-use Rattle.laws.proofs.Slices.{rightwards_none, rightwards_more, rightwards_all, mixed_back}
-use native.Mathlib.Nat.{le_refl, le_trans}
-use native.Mathlib.Numerals.{add-one}
-use lib.ListN.{length, get_or, length-set}
-use Rattle.filter.proofs.coefficients.accumulate.Lts
-use Rattle.filter.proofs.coefficients.accumulate.Reads
+use Rattle.laws.proofs.Slices.{Rightwards, rightwards_none, rightwards_more, rightwards_all, mixed_back}
 use Rattle.filter.proofs.coefficients.accumulate.Goals as goal
 
-pub loop-k-init : goal.loop-k-init
+pub loop-x-init : goal.loop-x-init
 unfolding sum
-loop-k-init c = (search rules, search rules, search rules, refl, rightwards_none (running (at c.args.out.now)) _)
+loop-x-init c = record { is = refl; written = rightwards_none (running (at c.args.out.now)) _ }
 
--- what is read is what stood there, and the total with it is at most that of all
-entry : (c : Lts.After-slice_known Reads.Pre Reads.Post goal.the-invariant-loop-k goal.the-decreases-loop-k) → let turn = c.loop-k in
-    turn.total + get_or turn.out turn.k 0 ≡ sum (turn.k + 1) (at c.args.out.now)
+entry : (old out : List ℕ) (i total : ℕ) → total ≡ sum i (at old) → Rightwards (running (at old)) old i out → total + get_or out i 0 ≡ sum (i + 1) (at old)
 unfolding sum at
-entry c =
-    let turn = c.loop-k in
-    let old = c.args.out.now in
-    rw (add-one turn.k) (ap₂ ◌+◌ turn.invariant.3 (mixed_back 0 turn.invariant.4 turn.k (le_refl turn.k)))
+entry old out i total e w = rw (add-one i) (ap₂ ◌+◌ e (mixed_back 0 w i (le_refl i)))
 
-within : (c : Lts.After-slice_known Reads.Pre Reads.Post goal.the-invariant-loop-k goal.the-decreases-loop-k) → let turn = c.loop-k in
-    sum (turn.k + 1) (at c.args.out.now) ≤ 2 ^ 44
-within c =
-    let turn = c.loop-k in
-    let old = c.args.out.now in
-    le_trans (sum_grows (at old) (turn.k + 1) (length old) (omega arith)) c.requires
+within : (old : List ℕ) (i : ℕ) → i < length old → sum (length old) (at old) ≤ 2 ^ 44 → sum (i + 1) (at old) ≤ 2 ^ 44
+within old i h most = le_trans (sum_grows (at old) (i + 1) (length old) (omega arith)) most
 
 pub overflow_add-total : goal.overflow_add-total
-overflow_add-total c = omega (arith, entry c, within c)
+overflow_add-total c =
+    let turn = c.loop-x in
+    let old = c.args.out.now in
+    record { fits = omega (arith, entry old turn.out turn.x-index turn.total turn.invariant.is turn.invariant.written, within old turn.x-index c.loop-x-test.true c.requires) }
 
-pub loop-k-preserved : goal.loop-k-preserved
+pub loop-x-preserved : goal.loop-x-preserved
 unfolding running
-loop-k-preserved c =
-    let turn = c.loop-k in
-    let old = c.args.out.now in (
-      search rules,
-      simp length-set turn.invariant.1,
-      search rules,
-      entry c,
-      rightwards_more (running (at old)) old _ turn.invariant.4 (search rules) (entry c ∙ ap (λ n. sum n (at old)) (add-one turn.k)),
-    )
+loop-x-preserved c =
+    let turn = c.loop-x in
+    let old = c.args.out.now in
+    let e = entry old turn.out turn.x-index turn.total turn.invariant.is turn.invariant.written in
+    record {
+      is = e;
+      written = rightwards_more (running (at old)) old _ turn.invariant.written (search rules) (e ∙ ap (λ n. sum n (at old)) (add-one turn.x-index));
+    }
 
 pub returns : goal.returns
 returns c =
     let old = c.args.out.now in
-    rightwards_all (running (at old)) old c.loop-k.invariant.4 (omega arith)
+    rightwards_all (running (at old)) old c.loop-x.invariant.written (omega arith)

@@ -1,16 +1,10 @@
--- `filter::coefficients::difference` meets its contract: entries are written from the right, so that what is read still stands.
+-- Entries are written from the right, so that what is read still stands.
 -- Assumes nothing.
-use mathlib.Core.Path.{◌≡◌}
-use Prim.Native.Nat.{◌-◌, ◌≤◌}
+use Prim.Native.Nat.{◌-◌}
 use Rattle.laws.proofs.Sequences.{behind}
 use Rattle.laws.proofs.Kernels.{at}
 use Rattle.laws.proofs.Slices.{Leftwards}
-use lib.ListN.{length}
 use Rattle.filter.proofs.coefficients.difference.Given as goal
 
 abbrev pub invariant-loop-k : goal.invariant-loop-k
-invariant-loop-k l =
-    (length l.out ≡ length l.initial.out) × (l.k ≤ length l.initial.out) × Leftwards (λ j. at l.initial.out j - behind (at l.initial.out) l.n j) l.initial.out l.k l.out
-
-abbrev pub decreases-loop-k : goal.decreases-loop-k
-decreases-loop-k l = l.k
+invariant-loop-k l = Leftwards (λ j. at l.initial.out j - behind (at l.initial.out) l.n j) l.initial.out l.k l.out

@@ -1,27 +1,34 @@
--- What `search` does not find of `coefficients::impulse`.
-use mathlib.Core.Path.{sym, ◌∙◌}
-use mathlib.Core.List.{[]}
+-- `filter::coefficients::impulse` meets its contract: 1 at the start, and 0 behind it.
+-- Assumes nothing.
+use mathlib.Core.Path.{◌≡◌, refl, sym, ap, ◌∙◌}
+use mathlib.Core.List.{List, [], ◌∷◌}
+use Prim.Native.Nat.{ℕ, zero, suc}
 use native.Mathlib.Omega.{arith}
 use borrow.Author.Rules.{rules}
+use lib.ListN.{length, replicate, set}
+use Rattle.std.proofs.lemmas.Grind.{common_steps}
+use Rattle.spec.specs.Words.{tab}
 use Rattle.spec.specs.Recipe.{kernel}
-use Rattle.laws.proofs.Kernels.{at, impulse_start, impulse_later}
-use Rattle.laws.proofs.Slices.{rightwards_none, rightwards_more, rightwards_all}
-use lib.ListN.{length-set}
+use Rattle.laws.proofs.Lists.{tab_replicate}
+use Rattle.laws.proofs.Kernels.{at}
 use Rattle.filter.proofs.coefficients.impulse.Goals as goal
-use Rattle.filter.proofs.coefficients.impulse.Goals.{then-k-eq0, else-k-eq0}
 
-pub loop-k-init : goal.loop-k-init
-loop-k-init c = (search rules, search rules, search rules, rightwards_none (at (kernel [])) _)
+one_first : (n : ℕ) (l : List ℕ) → l ≡ replicate n 0 → set l 0 1 ≡ tab n (at (kernel []))
+unfolding tab at kernel
+one_first zero l e = ap (λ m. set m 0 1) e
+one_first (suc n) l e = ap (λ m. set m 0 1) e ∙ ap (λ m. 1 ∷ m) (sym (tab_replicate n 0))
 
-pub loop-k-preserved : goal.loop-k-preserved
-loop-k-preserved c =
-    let turn = c.loop-k in (
-      search rules,
-      simp length-set turn.invariant.1,
-      search rules,
-      rightwards_more (at (kernel [])) c.args.out.now c.if-k-eq0.out turn.invariant.3 (search rules)
-          (elim c.if-k-eq0.branch [ then-k-eq0 w ↦ w.out-is ∙ sym (impulse_start turn.k w.if-k-eq0.true) | else-k-eq0 w ↦ w.out-is ∙ sym (impulse_later turn.k w.if-k-eq0.false) ]),
-    )
+none_there : (n : ℕ) (l : List ℕ) → l ≡ replicate n 0 → n ≡ 0 → l ≡ tab n (at (kernel []))
+unfolding tab
+none_there n l e z = rw z at e ∙ rw z refl
 
-pub returns : goal.returns
-returns c = rightwards_all (at (kernel [])) c.args.out.now c.loop-k.invariant.3 (omega arith)
+pub returns-in-Some : goal.returns-in-Some
+returns-in-Some c =
+    let filled : c.fill.new.self ≡ replicate (length c.args.out.now) 0 = search rules in
+    one_first (length c.args.out.now) _ filled
+
+pub returns-in_default : goal.returns-in_default
+returns-in_default c =
+    let filled : c.fill.new.self ≡ replicate (length c.args.out.now) 0 = grind (arith, common_steps) in
+    let none : length c.args.out.now ≡ 0 = grind (arith, common_steps) in
+    none_there (length c.args.out.now) _ filled none

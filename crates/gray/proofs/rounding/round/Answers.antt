@@ -1,6 +1,7 @@
 -- `gray::rounding::round` meets its contract: the recipe's checks, then 7 for each output and 11, then the greys and leftovers.
 -- Assumes nothing.
 use Rattle.std.proofs.Common.{◌≡◌, ◌*◌, Bool, true, false, ltb, List, ℕ, sym, ap, ◌∙◌, arith}
+use mathlib.Core.Logic.{inl, inr}
 use Rattle.std.proofs.lemmas.Result.{err_from_is_err_and}
 use Rattle.spec.specs.Words.{somewhere}
 use Rattle.spec.specs.Recipe.{Recipe, gain}
@@ -12,6 +13,7 @@ use Rattle.gray.specs.declared.rounding.Divisor.{Divisor}
 use Rattle.gray.specs.Division.{divisor, Divides}
 use Rattle.gray.proofs.Grays.{round_refused, round_unlike, round_bright, round_all}
 use Rattle.gray.proofs.rounding.round.Goals as goal
+use Rattle.gray.proofs.rounding.round.Goals.{then-out-sums-via-then-out-sums, then-out-sums-via-else-out-sums+then-leftovers-sums}
 
 -- once the recipe is accepted: what divides by the weight, and that the limit is 255 times the weight
 module _ (r : Recipe) (m : Measures) (k : Known r m) where
@@ -29,7 +31,12 @@ returns-in_err-known c =
     rw (p.1, p.2) (round_refused _ _ _ _ _ (measured_refused _ _ c.in_err-known.ensures _))
 
 pub returns-then-out-sums : goal.returns-then-out-sums
-returns-then-out-sums c = round_unlike _ _ _ _ (known _ _ c.in_ok-known.ensures).none c.then-out-sums.either
+returns-then-out-sums c =
+    round_unlike _ _ _ _ (known _ _ c.in_ok-known.ensures).none
+    (elim c.then-out-sums.branch [
+      | then-out-sums-via-then-out-sums w ↦ inl w.if-out-sums.true
+      | then-out-sums-via-else-out-sums+then-leftovers-sums w ↦ inr (w.if-out-sums.false, w.if-leftovers-sums.true)
+    ])
 
 pub overflow_mul-known : goal.overflow_mul-known
 overflow_mul-known c =
