@@ -31,9 +31,9 @@ fn run_start(weights: &[u64], at: usize) -> usize
     requires { at < length weights.now }
     ensures { (result ≤ at) × ((k : ℕ) → result ≤ k → k ≤ at → get_or weights.now k 0 ≡ get_or weights.now at 0) }
 {
-    for k in (0..at).rev() {
-        if weights[k] != weights[at] {
-            return k + 1;
+    for from in (0..at).rev() {
+        if weights[from] != weights[at] {
+            return from + 1;
         }
     }
     0
@@ -45,9 +45,9 @@ fn run_end(weights: &[u64], at: usize) -> usize
     ensures { (at < result) × (result ≤ length weights.now)
         × ((k : ℕ) → at ≤ k → k < result → get_or weights.now k 0 ≡ get_or weights.now at 0) }
 {
-    for k in at + 1..weights.len() {
-        if weights[k] != weights[at] {
-            return k;
+    for to in at + 1..weights.len() {
+        if weights[to] != weights[at] {
+            return to;
         }
     }
     weights.len()
@@ -130,23 +130,24 @@ impl<'a> Band<'a> {
         ensures { Shades gray 0 self.now sums.now out.new × Shades leftoverOf (pos 0) self.now sums.now leftovers.new }
     {
         let across = self.across;
-        let Span { from, to } = self.middle;
         let end = across.len();
+        let left = self.middle.from;
+        let right = self.middle.to;
         rim(
             self.down,
-            &across[..from],
-            &self.reciprocals[..from],
-            &sums[..from],
-            &mut out[..from],
-            &mut leftovers[..from],
+            &across[..left],
+            &self.reciprocals[..left],
+            &sums[..left],
+            &mut out[..left],
+            &mut leftovers[..left],
         );
         rim(
             self.down,
-            &across[to..],
-            &self.reciprocals[to..end],
-            &sums[to..],
-            &mut out[to..],
-            &mut leftovers[to..],
+            &across[right..],
+            &self.reciprocals[right..end],
+            &sums[right..],
+            &mut out[right..],
+            &mut leftovers[right..],
         );
     }
 

@@ -1,14 +1,14 @@
 // Document 01's same-size blur with document 02's leftovers, by the inside weight: the one pass over the
 // picture, each grown row that is taken rounded as it comes.
-ghost use Rattle.std.specs.Prelude.{◌≡◌, ◌≤◌, ◌/◌, ◌*◌, length};
+ghost use Rattle.std.specs.Prelude.{◌≡◌, ◌*◌, ◌/◌, ◌≤◌, length};
 ghost use Rattle.spec.specs.Recipe.{recipe, order};
 ghost use Rattle.spec.specs.Picture.{picture, pictured, full_sides, full_width_of, full_height_of};
 ghost use Rattle.spec.specs.Gray.{places, same_gray, same_leftover};
-ghost use Rattle.spec.specs.Refusals.{first, outcome, size_checks, start_checks, picture_checks, full_size};
-ghost use Rattle.filter.specs.Answers.{sides};
+ghost use Rattle.spec.specs.Refusals.{first, outcome, size_checks, picture_checks, start_checks, full_size};
 ghost use Rattle.rows.specs.Streaming.{picture_of, Streamed};
 ghost use Rattle.rows.specs.Taking.{Taken};
 ghost use Rattle.filter.specs.Axis.{axis_weights};
+ghost use Rattle.filter.specs.Answers.{sides};
 ghost use Rattle.blur.specs.Blurred.{Blurred};
 
 use crate::rims::Band;
@@ -60,18 +60,22 @@ fn gray_rows(
     }
 }
 
-// The state before the first grown row that is taken, of the grown height.
+// Starts the one pass, and passes over so many grown rows, those above the first that is taken.
 fn begin(
     filter: Filter,
     sides: Sides,
-    full: Sides,
+    above: usize,
     pixels: &[u8],
     row: &mut [u64],
     cells: &mut [u64],
 ) -> State
+    requires { let r = recipe filter in
+        (first (start_checks r sides.width sides.height (length cells.old)) ≡ 0) × (length pixels.now ≡ sides.width * sides.height)
+        × (above ≤ full_height_of r sides.height) × (length row.old ≡ full_width_of r sides.width) }
+    ensures { Streamed filter (picture sides.width sides.height pixels.now) above result cells.new }
 {
     let first = start(filter, sides.width, sides.height, cells).unwrap();
-    skip(first, (full.height - sides.height) / 2, pixels, row, cells)
+    skip(first, above, pixels, row, cells)
 }
 
 // The greys and leftovers of an accepted recipe and picture, of these grown sides.
@@ -83,12 +87,23 @@ fn run(
     leftovers: &mut [i64],
     cells: &mut [u64],
 )
+    requires { let p = pictured image in
+        (first (picture_checks (recipe filter) p) ≡ 0) × (sides full ≡ full_sides (recipe filter) image.width image.height)
+        × (length out.old ≡ image.width * image.height) × (length leftovers.old ≡ image.width * image.height)
+        × (length cells.old ≡ 2 * full_size (recipe filter) p) }
+    ensures { let p = pictured image.entry in
+        (out.new ≡ places p (same_gray (recipe filter) p)) × (leftovers.new ≡ places p (same_leftover (recipe filter) p)) }
 {
-    let Image { width, height, pixels } = image;
+    let Image {
+        width,
+        height,
+        pixels,
+    } = image;
+    let above = (full.height - height) / 2;
     // 1,024 + 255, the widest grown row
     let mut row = [0u64; 1279];
     let row = &mut row[..full.width];
-    let state = begin(filter, width, height, pixels, row, cells);
+    let state = begin(filter, Sides { width, height }, above, pixels, row, cells);
     let mut across = [0u64; 1024];
     let mut down = [0u64; 1024];
     axis_weights(filter.rows, width, &mut across[..width]).unwrap();
@@ -98,4 +113,48 @@ fn run(
         down: &down[..height],
     };
     gray_rows(state, inside, pixels, row, out, leftovers, cells);
+}
+
+// The checks 6 to 8, and the greys and leftovers where none of them holds.
+fn sized(
+    filter: Filter,
+    full: Sides,
+    image: Image,
+    out: &mut [u8],
+    leftovers: &mut [i64],
+    cells: &mut [u64],
+) -> Result<(), Refusal>
+    requires { (first (size_checks (recipe filter) image.width image.height) ≡ 0) × (sides full ≡ full_sides (recipe filter) image.width image.height) }
+    ensures { Blurred (recipe filter) (pictured image.entry) out.old leftovers.old cells.old
+        (outcome result) out.new leftovers.new cells.new }
+{
+    let size = image.width * image.height;
+    if image.pixels.len() != size {
+        return Err(Refusal::OtherPixels);
+    }
+    if out.len() != size || leftovers.len() != size {
+        return Err(Refusal::OtherOutput);
+    }
+    let needed = 2 * (full.width * full.height);
+    if cells.len() < needed {
+        return Err(Refusal::TooFewCells);
+    }
+    run(filter, full, image, out, leftovers, &mut cells[..needed]);
+    Ok(())
+}
+
+// The blur of a picture in its own size, and behind it what rounding left over at each place: refused by 1
+// to 8. The work cells are free afterwards.
+pub fn blur(
+    filter: Filter,
+    image: Image,
+    out: &mut [u8],
+    leftovers: &mut [i64],
+    cells: &mut [u64],
+) -> Result<(), Refusal>
+    ensures { Blurred (recipe filter) (pictured image.entry) out.old leftovers.old cells.old
+        (outcome result) out.new leftovers.new cells.new }
+{
+    let full = full_size(filter, image.width, image.height)?;
+    sized(filter, full, image, out, leftovers, cells)
 }

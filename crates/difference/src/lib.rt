@@ -45,7 +45,7 @@ fn difference_row(a: Sums, b: Sums, by: Divisor, out: &mut [i16])
         × (length a.sums.now ≡ length out.old) × (length b.sums.now ≡ length out.old) }
     ensures { out.new ≡ tab (length out.old)
         (λ k. nearest_difference (get_or a.entry.sums.now k 0 * b.entry.weight) (get_or b.entry.sums.now k 0 * a.entry.weight)
-            (a.entry.weight * b.entry.weight)) }
+        (a.entry.weight * b.entry.weight)) }
 {
     for (k, difference) in out.iter_mut().enumerate() {
         *difference = signed(a.sums[k] * b.weight, b.sums[k] * a.weight, by);
@@ -169,14 +169,7 @@ impl Operand {
 
 // The differences of two accepted recipes and an accepted picture; the first recipe has the work cells
 // before `middle`, the second those from there on.
-fn run(
-    a: Operand,
-    b: Operand,
-    image: Image,
-    middle: usize,
-    out: &mut [i16],
-    cells: &mut [u64],
-)
+fn run(a: Operand, b: Operand, image: Image, middle: usize, out: &mut [i16], cells: &mut [u64])
     requires { BothAccepted a b (pictured image) middle (length cells.old) × (length out.old ≡ image.width * image.height) }
     ensures { let p = pictured image.entry in
         out.new ≡ places p (differenceOf (recipe a.filter) (recipe b.filter) p) }
@@ -216,13 +209,7 @@ struct Plan {
 }
 
 // The sizes for outputs and work cells of these lengths, by the checks 6, 7, 8, 12 and 13.
-fn planned(
-    a: Operand,
-    b: Operand,
-    image: Image,
-    out: usize,
-    cells: usize,
-) -> Result<Plan, Refusal>
+fn planned(a: Operand, b: Operand, image: Image, out: usize, cells: usize) -> Result<Plan, Refusal>
     requires { Moderate a.known image.width image.height × Moderate b.known image.width image.height × (0 < a.known.gain) }
     ensures { told (λ p. p) result ≡ answer (plan_checks a.known b.known (pictured image.entry) out cells) (plan_of a.known b.known (pictured image.entry)) }
 {
@@ -272,7 +259,13 @@ pub fn difference(
     let m = measure(a)?;
     let n = measure(b)?;
     full_size(b, image.width, image.height)?;
-    let first = Operand { filter: a, known: m };
-    let second = Operand { filter: b, known: n };
+    let first = Operand {
+        filter: a,
+        known: m,
+    };
+    let second = Operand {
+        filter: b,
+        known: n,
+    };
     sized(first, second, image, out, cells)
 }

@@ -3,5 +3,5 @@
 use Rattle.std.proofs.Common.{◌≡◌, ℕ, ◌≤◌, ◌<◌, get_or}
 use Rattle.blur.proofs.rims.run_end.Given as goal
 
-abbrev pub invariant-loop-k : goal.invariant-loop-k
-invariant-loop-k l = (n : ℕ) → l.at ≤ n → n < l.k → get_or l.weights n 0 ≡ get_or l.weights l.at 0
+abbrev pub invariant-loop-to : goal.invariant-loop-to
+invariant-loop-to l = (n : ℕ) → l.at ≤ n → n < l.to → get_or l.weights n 0 ≡ get_or l.weights l.at 0

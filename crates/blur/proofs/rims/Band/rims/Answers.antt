@@ -1,6 +1,6 @@
 -- `blur::rims::Band::rims` meets its contract: one rim after the other.
 -- Assumes nothing.
-use Rattle.std.proofs.Common.{◌≡◌, ℕ, ◌≤◌, ◌<◌, ◌-◌, ◌++◌, List, length, get_or, take, drop, pos, ap, ◌∙◌, arith, rules, length-append, length-drop}
+use Rattle.std.proofs.Common.{◌≡◌, ℕ, ◌≤◌, ◌-◌, ◌++◌, List, length, get_or, take, drop, pos, ap, ◌∙◌, arith, length-append, length-drop}
 use lib.Seq.{length-take-le}
 use Rattle.laws.proofs.Slices.{length_between}
 use Rattle.spec.specs.Gray.{gray, leftover}

@@ -1,6 +1,6 @@
 -- `blur::rims::Band::turn` meets its contract: the reciprocals of both rims and then the divisor of the middle.
 -- Assumes nothing.
-use Rattle.std.proofs.Common.{◌≡◌, ℕ, ◌≤◌, ◌*◌, ◌-◌, ◌++◌, List, length, take, drop, refl, ap, ◌∙◌, arith, rules, length-append, length-drop}
+use Rattle.std.proofs.Common.{◌≡◌, ◌≤◌, ◌*◌, ◌++◌, length, drop, refl, ap, ◌∙◌, arith, rules, length-append, length-drop}
 use lib.Seq.{length-take-le, get_or-take}
 use Rattle.laws.proofs.Slices.{length_between, get_d_between}
 use Rattle.gray.specs.Division.{reciprocal_of}
