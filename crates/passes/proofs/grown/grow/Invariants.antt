@@ -1,16 +1,12 @@
 -- `passes::grown::grow` meets its contract: after j rows they are in place, with the black places to their right.
 -- Assumes nothing.
-use mathlib.Core.Path.{◌≡◌}
-use Prim.Native.Nat.{◌-◌, ◌≤◌}
-use lib.ListN.{length}
-use Rattle.spec.specs.Picture.{Picture}
-use Rattle.passes.proofs.Growing.{Grown}
+use Prim.Native.Nat.{◌*◌}
+use Rattle.spec.specs.Picture.{largest_gray, picture, Within}
+use Rattle.laws.proofs.Flat.{flat}
+use Rattle.passes.specs.Steps.{Below}
 use Rattle.passes.proofs.grown.grow.Given as goal
 
 abbrev pub invariant-loop-j : goal.invariant-loop-j
 invariant-loop-j l =
-    let p : Picture = record { width = l.width; height = l.height; pixels = l.pixels } in
-    (length l.dst ≡ length l.initial.dst) × (l.j ≤ l.height) × Grown p l.full_width l.j l.from l.to l.dst
-
-abbrev pub decreases-loop-j : goal.decreases-loop-j
-decreases-loop-j l = l.height - l.j
+    let p = picture l.width l.height l.pixels in
+    record { rows : Below (l.j * l.full_width) (flat p l.full_width) l.dst; bytes : Within largest_gray p }
