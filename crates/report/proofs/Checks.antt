@@ -28,7 +28,6 @@ use Rattle.stream.specs.Calls.{Began, began, zeros, started, start}
 use Rattle.job.specs.declared.reading.Job.{Job}
 use Rattle.job.specs.Answers.{job_told, job_read}
 use Rattle.job.proofs.Holding.{held_recipe}
-use Rattle.report.specs.declared.opening.Opened.{Opened}
 use Rattle.report.specs.Opening.{Opening, opening, not_opened, job_started, job_opened}
 
 -- the number of a start is that of its checks, and on a refusal the cells are what they were

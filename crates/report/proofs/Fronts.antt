@@ -3,10 +3,9 @@
 use mathlib.Core.Path.{◌≡◌, refl, sym, ap, ap₂, ◌∙◌}
 use mathlib.Core.List.{List, [], ◌∷◌, ◌++◌, append-nil, append_assoc}
 use Prim.Native.Nat.{ℕ, zero, suc, ◌+◌, ◌-◌, ◌*◌, ◌≤◌}
-use native.Mathlib.Nat.{sub-zero}
 use native.Mathlib.Omega.{arith}
-use lib.ListN.{length, take, drop, replicate, take-append-drop, length-append, length-replicate, replicate-append-replicate}
-use lib.Seq.{take-length, drop-length, take-append_seam, drop-append_seam, take_at, drop-append-le, length-take-le, drop-drop}
+use lib.ListN.{length, take, drop, take-append-drop, length-append}
+use lib.Seq.{take-length, drop-length, take-append_seam, drop-append_seam, drop-append-le, length-take-le, drop-drop}
 use Rattle.std.specs.Prelude.{Result, Ok, Err, IsOk}
 use Rattle.spec.specs.Program.{line, refusal_printed}
 use Rattle.spec.specs.declared.refusal.Refusal.{Refusal}
@@ -105,4 +104,3 @@ first_short o = go o.refusal
     go : (n : ℕ) → length (either n (line (o.width ∷ o.height ∷ o.gain ∷ [])) (refusal_printed o.refusal)) ≤ 64
     go zero = length_line (o.width ∷ o.height ∷ o.gain ∷ [])
     go (suc n) = omega (arith, length_refusal o.refusal)
-

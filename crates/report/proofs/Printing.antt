@@ -21,7 +21,6 @@ use Rattle.spec.specs.Program.{line, sums_printed, refusal_printed, printed}
 use Rattle.laws.proofs.Lists.{length_tab, tab_agree}
 use Rattle.laws.proofs.Refusals.{lent_refused, lent_accepted, is_sized, grown_most}
 use Rattle.stream.specs.declared.calls.State.{State}
-use Rattle.std.specs.Prelude.{Ok}
 use Rattle.stream.specs.Calls.{state_of, zeros, Called, began, start}
 use Rattle.job.proofs.Answering.{job_length_lem}
 use Rattle.rows.specs.Streaming.{Streamed}

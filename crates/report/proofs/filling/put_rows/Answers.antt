@@ -1,6 +1,6 @@
 -- `report::filling::put_rows` meets its contract: the answer of `filter::full_size`, case by case.
 -- Assumes nothing.
-use mathlib.Core.Path.{◌≡◌, refl, sym, ap, ap₂, ◌∙◌}
+use mathlib.Core.Path.{◌≡◌, sym, ap, ap₂, ◌∙◌}
 use Prim.Native.Nat.{ℕ, ◌+◌, ◌*◌, ◌/◌, ◌≤◌, ◌<◌, max}
 use native.Mathlib.Nat.{le_trans, le_of_eq, div-mul-le_self, le-div_iff_mul-le}
 use native.Mathlib.Omega.{arith}

@@ -1,6 +1,6 @@
 -- `report::opening::head` meets its contract: the line of the refusal, or that of the three numbers.
 -- Assumes nothing.
-use mathlib.Core.Path.{◌≡◌, ap, ◌∙◌}
+use mathlib.Core.Path.{ap, ◌∙◌}
 use borrow.Author.Rules.{rules}
 use lib.ListN.{length}
 use Rattle.report.specs.Opening.{front}
