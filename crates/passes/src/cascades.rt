@@ -68,7 +68,7 @@ fn pass(step: usize, n: usize, src: &[u64], dst: &mut [u64])
 impl<'a> Buffers<'a> {
     // The grown picture in the buffer that is to hold it.
     pub(crate) fn place(&mut self, image: Image, full_width: usize)
-        requires { (length image.pixels.now ≡ image.width * image.height) × (0 < full_width) × (image.width ≤ full_width)
+        requires { (length image.pixels.now ≡ image.width * image.height) × (0 < image.width) × (image.width ≤ full_width)
             × (image.height * full_width ≤ length self.old.out.now) }
         ensures same { SameBuffers self.old self.new }
         ensures holder { self.new.holder ≡ self.old.holder }

@@ -14,7 +14,7 @@ use Rattle.passes.proofs.run.Goals as goal
 pub place-requires : goal.place-requires
 place-requires c =
     let room = picture_room _ _ c.requires.0 c.args.full_width (length c.args.out.now) c.requires.1 c.requires.2 in
-    (c.requires.0.size, room.0, room.1, room.2)
+    (c.requires.0.size, c.requires.0.sides.width.0, room.1, room.2)
 
 pub carry-requires : goal.carry-requires
 carry-requires c =

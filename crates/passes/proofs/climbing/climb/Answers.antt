@@ -16,7 +16,7 @@ use Rattle.passes.proofs.climbing.climb.Goals as goal
 pub place-requires : goal.place-requires
 place-requires c =
     let room = picture_room _ _ c.requires.2 c.args.full_width (length c.args.out.now) c.requires.3 c.requires.4 in
-    (c.requires.2.size, room.0, room.1, room.2)
+    (c.requires.2.size, c.requires.2.sides.width.0, room.1, room.2)
 
 pub levels-requires : goal.levels-requires
 levels-requires c =
