@@ -38,6 +38,27 @@ module _ {S A : Type 0} (made : S → A → A) (after : S → A → S) where
   swept_all i s l target h t =
       sym (append-nil l) ∙ sym (ap₂ (λ a b. a ++ swept made after s b) (take_all i l h) (drop_of_length-le l {i = i} h)) ∙ t
 
+  -- one value more, written elsewhere than it was read
+  pub written_more : (i : ℕ) (s t : S) (d x y : A) (xs l target : List A) → i < length l → length xs ≡ length l → x ≡ get_or xs i d
+      → y ≡ made s x → t ≡ after s x → take i l ++ swept made after s (drop i xs) ≡ target
+      → take (i + 1) (set l i y) ++ swept made after t (drop (i + 1) xs) ≡ target
+  unfolding swept
+  written_more i s t d x y xs l target h size q e f all =
+      let inside : i < length xs = omega arith in
+      ap₂ (λ a b. a ++ swept made after t b)
+      (ap (λ n. take n (set l i y)) (add-one i) ∙ take-suc-set l i y h)
+      (ap (λ n. drop n xs) (add-one i))
+      ∙ append_snoc (take i l) y (swept made after t (drop (suc i) xs))
+      ∙ ap₂ (λ z u. take i l ++ (z ∷ swept made after u (drop (suc i) xs))) (e ∙ ap (made s) q) (f ∙ ap (after s) q)
+      ∙ sym (ap (λ a. take i l ++ swept made after s a) (drop-cons xs i d inside))
+      ∙ all
+
+  pub written_all : (i : ℕ) (s : S) (xs l target : List A) → length l ≤ i → length xs ≤ i → take i l ++ swept made after s (drop i xs) ≡ target
+      → l ≡ target
+  unfolding swept
+  written_all i s xs l target h g t =
+      sym (append-nil l) ∙ sym (ap₂ (λ a b. a ++ swept made after s b) (take_all i l h) (drop_of_length-le xs {i = i} g)) ∙ t
+
 -- two stages at once
 module _ {S T A : Type 0} (m : S → A → A) (a : S → A → S) (n : T → A → A) (b : T → A → T) where
   abbrev both_made : Then S T → A → A

@@ -4,7 +4,7 @@
 // differences. Without a wide box the row begins in 16 bits.
 #![tactic(auto)]
 
-ghost use Rattle.std.specs.Prelude.{◌≡◌, ℕ, ◌-◌, ◌%◌, ◌^◌, ◌<◌, ◌≤◌, ◌==◌, min, length, slice_index_or, count_by, sum as list_sum, if◌then◌else◌};
+ghost use Rattle.std.specs.Prelude.{◌≡◌, ◌-◌, ◌%◌, ◌^◌, ◌≤◌, ◌==◌, min, length, replicate, count_by, sum as list_sum, if◌then◌else◌};
 ghost use Rattle.spec.specs.Words.{sum, tab, somewhere};
 ghost use Rattle.spec.specs.Recipe.{widths};
 ghost use Rattle.laws.proofs.Kernels.{at};
@@ -18,7 +18,7 @@ mod sweeps;
 
 use crate::differences::{all_apart, is_wide};
 use crate::stages::{Pair, Total};
-use crate::sweeps::repeated;
+use crate::sweeps::{repeated, repeated_from, widen};
 use spec::Cascade;
 
 // How many boxes have width 2, and how many are wide.
@@ -39,43 +39,21 @@ fn total(pixels: &[u8]) -> u32
     pixels.iter().map(|p| u32::from(*p)).sum()
 }
 
-// Each value in more bits.
-fn widen<A: Copy, B: From<A> + Copy>(from: &[A], to: &mut [B])
-    requires { length from.now ≡ length to.old }
-    ensures { (k : ℕ) (a : A) (b : B) → k < length to.old → B.from_gives (slice_index_or from.now k a) (slice_index_or to.new k b) }
+// The pixels, as many as fit, on a row that was black.
+fn load(pixels: &[u8], narrow: &mut [u16])
+    requires { narrow.old ≡ replicate (length narrow.old) 0 }
+    ensures { narrow.new ≡ tab (length narrow.old) (at pixels.now) }
 {
-    for (k, x) in to.iter_mut().enumerate() {
-        *x = B::from(from[k]);
-    }
-}
-
-// Black places.
-fn blacken<T: From<u8> + Copy>(row: &mut [T])
-    ensures { (k : ℕ) (d : T) → k < length row.old → T.from_gives 0 (slice_index_or row.new k d) }
-{
-    for x in row {
-        *x = T::from(0);
-    }
-}
-
-// The pixels, as many as fit, and black after them.
-fn load<T: From<u8> + Copy>(pixels: &[u8], row: &mut [T])
-    ensures { (k : ℕ) (d : T) → k < length row.old → T.from_gives (at pixels.now k) (slice_index_or row.new k d) }
-{
-    let fit = pixels.len().min(row.len());
-    widen(&pixels[..fit], &mut row[..fit]);
-    blacken(&mut row[fit..]);
+    let fit = pixels.len().min(narrow.len());
+    widen(&pixels[..fit], &mut narrow[..fit]);
 }
 
 // So many boxes of width 2, as many of them in 16 bits as cannot overflow: 255 * 2^8 is below 2^16.
-fn work_pairs(count: usize, pixels: &[u8], row: &mut [u64])
-    requires { length row.old ≤ 1279 }
+fn work_pairs(count: usize, narrow: &mut [u16], row: &mut [u64])
+    requires { length narrow.old ≡ length row.old }
     ensures { let fast = min count 8 in
-        row.new ≡ repeat (count - fast) (paired (2 ^ 64)) (repeat fast (paired (2 ^ 16)) (tab (length row.old) (at pixels.now))) }
+        row.new ≡ repeat (count - fast) (paired (2 ^ 64)) (repeat fast (paired (2 ^ 16)) narrow.old) }
 {
-    let mut narrow = [0u16; 1279];
-    let narrow = &mut narrow[..row.len()];
-    load(pixels, narrow);
     let fast = count.min(8);
     repeated(Pair { before: 0 }, fast, narrow);
     widen(narrow, row);
@@ -89,13 +67,15 @@ fn work(boxes: &[u8], pixels: &[u8], row: &mut [u64]) -> u64
         (row.new ≡ tab w (λ k. cascaded 1 boxes.now p k % 2 ^ 64))
         × (result ≡ (if somewhere wide boxes.now then sum w p % 2 ^ 64 else 0)) }
 {
+    let mut black = [0u16; 1279];
+    let narrow = &mut black[..row.len()];
+    load(pixels, narrow);
     let (twos, wides) = counted(boxes);
     if wides == 0 {
-        work_pairs(twos, pixels, row);
+        work_pairs(twos, narrow, row);
         return 0;
     }
-    load(pixels, row);
-    repeated(Total { total: 0 }, wides, row);
+    repeated_from(Total { total: 0 }, wides, narrow, row);
     repeated(Pair { before: 0 }, twos, row);
     all_apart(boxes, row);
     u64::from(total(&pixels[..pixels.len().min(row.len())]))

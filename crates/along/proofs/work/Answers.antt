@@ -1,15 +1,20 @@
 -- `along::work` meets its contract, by whether the list has a wide box: the laws of Boxes on what was loaded.
 -- Assumes nothing.
-use Rattle.std.proofs.Common.{◌≡◌, ℕ, ◌-◌, ◌%◌, ◌^◌, ◌<◌, ◌≤◌, min, cond, length, take, sym, ap, ◌∙◌, ap₂, arith, rules, mod-eq_of_lt}
+use Rattle.std.proofs.Common.{◌≡◌, ℕ, ◌-◌, ◌%◌, ◌^◌, ◌<◌, ◌≤◌, min, cond, length, take, replicate, sym, ap, ◌∙◌, ap₂, arith, rules, mod-eq_of_lt}
 use Rattle.std.specs.Prelude.{sum as list_sum}
 use Rattle.spec.specs.Words.{sum, tab}
 use Rattle.laws.proofs.Kernels.{at}
 use Rattle.along.specs.Private.{repeat, paired, totalled, wide_boxes, wides}
 use Rattle.along.proofs.Rows.{row}
 use Rattle.along.proofs.Carrying.{repeated_pairs, repeated_totals}
-use Rattle.along.proofs.Loading.{loaded, sum_loaded, count_twos, count_wides}
+use Rattle.along.proofs.Loading.{length_black, black, sum_loaded, count_twos, count_wides}
 use Rattle.along.proofs.Boxes.{nowhere_wide, somewhere_wide, worked_pairs, worked_totals}
 use Rattle.along.proofs.work.Goals as goal
+
+pub load-requires : goal.load-requires
+load-requires c =
+    let w = length c.args.row.now in
+    black w 1279 c.requires ∙ ap (λ n. replicate n 0) (sym (length_black w 1279 c.requires))
 
 pub returns-then-wides-eq0 : goal.returns-then-wides-eq0
 unfolding at row
@@ -20,9 +25,10 @@ returns-then-wides-eq0 c =
     let w = length a.row.now in
     let bytes : (k : ℕ) → at xs k ≤ 255 = λ k. omega (arith, c.type_inv.pixels k) in
     let twos = c.counted-twos.ensures.twos ∙ count_twos ns in
+    let loaded = c.load.ensures ∙ ap (λ n. tab n (at xs)) (length_black w 1279 c.requires) in
     let none : wides ns ≡ 0 = sym (count_wides ns) ∙ sym c.counted-twos.ensures.wides ∙ c.if-wides-eq0.true in (
       c.work_pairs.ensures
-          ∙ ap (λ c. repeat (c - min c 8) (paired (2 ^ 64)) (repeat (min c 8) (paired (2 ^ 16)) (tab w (at xs)))) twos
+          ∙ ap₂ (λ c l. repeat (c - min c 8) (paired (2 ^ 64)) (repeat (min c 8) (paired (2 ^ 16)) l)) twos loaded
           ∙ worked_pairs w ns xs bytes none,
       sym (ap (λ b. cond b (sum w (at xs) % 2 ^ 64) 0) (nowhere_wide ns none)),
     )
@@ -38,17 +44,17 @@ returns c =
     let twos = c.counted-twos.ensures.twos ∙ count_twos ns in
     let wide_ones = c.counted-twos.ensures.wides ∙ count_wides ns in
     let pos : 0 < wides ns = omega (arith, wide_ones, c.if-wides-eq0.false) in
-    let first = loaded w (at xs) c.load.new.row c.load.auto.row (λ k h. c.load.ensures k 0 h) in
+    let loaded = c.load.ensures ∙ ap (λ n. tab n (at xs)) (length_black w 1279 c.requires) in
     let same : length c.all_apart.new.row ≡ w = search rules in
     let fit : c.min.result ≡ min (length xs) w = c.min.ensures ∙ ap (min (length xs)) same in
     let all : c.from.result ≡ sum w (at xs) = search rules ∙ c.total.ensures ∙ ap (λ n. list_sum (take n xs)) fit ∙ sum_loaded w xs in
     let small : c.from.result < 2 ^ 64 = search rules in (
       c.all_apart.ensures
           ∙ ap (wide_boxes ns)
-          (c.repeated-2.ensures
+          (c.repeated.ensures
           ∙ repeated_pairs (2 ^ 64) _ _
           ∙ ap₂ (λ c l. repeat c (paired (2 ^ 64)) l) twos
-          (c.repeated.ensures ∙ repeated_totals _ _ ∙ ap₂ (λ c l. repeat c totalled l) wide_ones first))
+          (c.repeated_from.ensures ∙ repeated_totals _ _ ∙ ap₂ (λ c l. repeat c totalled l) wide_ones loaded))
           ∙ worked_totals w ns xs bytes,
       sym (mod-eq_of_lt small)
           ∙ ap (λ s. s % 2 ^ 64) all

@@ -1,7 +1,7 @@
--- `along::widen` meets its contract: values are written from the left.
+-- `along::sweeps::widen` meets its contract: values are written from the left.
 -- Assumes nothing.
 use Rattle.std.proofs.Common.{ℕ, ◌<◌, slice_index_or}
-use Rattle.along.proofs.widen.Given as goal
+use Rattle.along.proofs.sweeps.widen.Given as goal
 
 abbrev pub invariant-loop-k : goal.invariant-loop-k
 invariant-loop-k g l =
