@@ -196,7 +196,7 @@ skip_refused n s pixels out cells r row held e =
 
 -- the next grown row, in the words of those that drive the one pass
 module _ (f : Filter) (w h : ℕ) (pixels : List ℕ) (size : length pixels ≡ w * h) (small : Within largest_gray (picture w h pixels)) where
-  next : (k : ℕ) (s : State) (cells : List ℕ) → Streamed f (picture w h pixels) k s cells → (out : List ℕ) → k < full_height_of (recipe f) h
+  pub next : (k : ℕ) (s : State) (cells : List ℕ) → Streamed f (picture w h pixels) k s cells → (out : List ℕ) → k < full_height_of (recipe f) h
       → length out ≡ full_width_of (recipe f) w → (a : Called) → a ≡ advance s pixels out cells
       → (a.number ≡ 0) × Streamed f (picture w h pixels) (k + 1) a.state a.cells × (a.out ≡ full_row (recipe f) (picture w h pixels) k)
   next k s cells st out due wide a e =
