@@ -1,3 +1,5 @@
 pub mod Weighing
+pub mod Windowing
+pub mod Sizing
 pub mod Forming
 pub mod Reading

@@ -1,11 +1,11 @@
--- What each case of the answer stands for: the exact sum and the inside weight at a picture place, or the number of a refusal.
-use Rattle.std.specs.Prelude.{ℕ}
+-- What an answer stands for: the exact sum and the inside weight at a picture place, or the number of a refusal.
+use Rattle.std.specs.Prelude.{ℕ, Result}
+use Rattle.spec.specs.declared.refusal.Refusal.{Refusal}
 use Rattle.spec.specs.Recipe.{Recipe}
 use Rattle.spec.specs.Picture.{Picture}
 use Rattle.spec.specs.Gray.{same_sum, place_weight}
-use Rattle.spec.specs.Refusals.{Answer, accepted, refused}
+use Rattle.spec.specs.Refusals.{Answer, told}
 use Rattle.direct.specs.declared.points.Point.{Point}
-use Rattle.direct.specs.declared.points.Point.TheVariants as point
 
 -- an exact sum, and the weight over which a grey, its leftover and a quotient of it are
 pub record WeighedSum : Type 0 where
@@ -16,6 +16,9 @@ pub record WeighedSum : Type 0 where
 abbrev pub weighed_sum : Recipe → Picture → ℕ → ℕ → WeighedSum
 weighed_sum r p i j = record { sum = same_sum r p i j; weight = place_weight r p i j }
 
-abbrev pub point_told : Point → Answer WeighedSum
-point_told (point.At s w) = accepted (record { sum = s; weight = w })
-point_told (point.Refused n) = refused n
+-- those that a point holds
+abbrev pub weighed : Point → WeighedSum
+weighed s = record { sum = s.sum; weight = s.weight }
+
+abbrev pub point_told : Result Point Refusal → Answer WeighedSum
+point_told = told weighed

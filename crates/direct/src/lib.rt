@@ -6,80 +6,76 @@
 mod points;
 mod sums;
 
-ghost use Rattle.std.specs.Prelude.{◌≡◌, List, ℕ, length};
+ghost use Rattle.std.specs.Prelude.{◌≡◌};
 ghost use Rattle.spec.specs.Recipe.{recipe};
-ghost use Rattle.spec.specs.Picture.{picture};
-ghost use Rattle.spec.specs.Refusals.{first, direct_checks};
+ghost use Rattle.spec.specs.Picture.{pictured, full_sides};
+ghost use Rattle.spec.specs.Refusals.{first, outcome, answer, picture_checks, direct_checks};
+ghost use Rattle.filter.specs.Answers.{size_told};
 ghost use Rattle.direct.specs.Formed.{Formed};
 
-use crate::sums::form;
-use filter::FullSize;
+use crate::sums::{Kernels, form};
+use filter::Sides;
 pub use points::{Point, point_sum};
-use spec::Filter;
+use spec::{Filter, Image, Refusal};
 
-// The number of the first of 1 to 7 that applies, 0 where none does, by the lengths of the slices alone.
-fn refusal(
+// The grown sides of a picture: refused by 1 to 6.
+fn picture_size(filter: Filter, image: Image) -> Result<Sides, Refusal>
+    ensures { let p = pictured image.entry in
+        size_told result ≡ answer (picture_checks (recipe filter) p) (full_sides (recipe filter) p.width p.height) }
+{
+    let sides = filter::full_size(filter, image.width, image.height)?;
+    if image.pixels.len() != image.width * image.height {
+        return Err(Refusal::OtherPixels);
+    }
+    Ok(sides)
+}
+
+// The same, and whether the slices for R, for C and for the sums are as long as these sides ask: refused
+// by 1 to 7.
+fn check_lengths(
     filter: Filter,
-    width: usize,
-    height: usize,
-    pixels: usize,
+    image: Image,
     rows: usize,
     columns: usize,
     out: usize,
-) -> u8
-    ensures { (xs : List ℕ) → length xs ≡ pixels → result ≡ first (direct_checks (recipe filter) (picture width height xs) rows columns out) }
+) -> Result<(), Refusal>
+    ensures { outcome result ≡ first (direct_checks (recipe filter) (pictured image.entry) rows columns out) }
 {
-    let answer = filter::full_size(filter, width, height);
-    match answer {
-        FullSize::Refused(number) => number,
-        FullSize::Sides {
-            width: grown_width,
-            height: grown_height,
-        } => {
-            if pixels != width * height {
-                6
-            } else if rows != grown_width - width + 1 {
-                7
-            } else if columns != grown_height - height + 1 {
-                7
-            } else if out != grown_width * grown_height {
-                7
-            } else {
-                0
-            }
-        }
+    let sides = picture_size(filter, image)?;
+    if rows != sides.width - image.width + 1
+        || columns != sides.height - image.height + 1
+        || out != sides.width * sides.height
+    {
+        return Err(Refusal::OtherOutput);
     }
+    Ok(())
 }
 
 // All exact sums of a picture, row by row, with the coefficients of the row list and of the column list
 // filled in: refused by 1 to 7.
 pub fn direct(
     filter: Filter,
-    width: usize,
-    height: usize,
-    pixels: &[u8],
+    image: Image,
     row_kernel: &mut [u64],
     column_kernel: &mut [u64],
     out: &mut [u64],
-) -> u8
-    ensures { let p = picture width height pixels.now in
-        Formed (recipe filter) p row_kernel.old column_kernel.old out.old
-        result row_kernel.new column_kernel.new out.new }
+) -> Result<(), Refusal>
+    ensures { Formed (recipe filter) (pictured image.entry) row_kernel.old column_kernel.old out.old
+        (outcome result) row_kernel.new column_kernel.new out.new }
 {
-    let number = refusal(
+    check_lengths(
         filter,
-        width,
-        height,
-        pixels.len(),
+        image,
         row_kernel.len(),
         column_kernel.len(),
         out.len(),
-    );
-    if number != 0 {
-        return number;
-    }
-    filter::kernel(filter.rows, row_kernel);
-    filter::kernel(filter.columns, column_kernel);
-    form(pixels, width, height, row_kernel, column_kernel, out);
-    0
+    )?;
+    filter::kernel(filter.rows, row_kernel)?;
+    filter::kernel(filter.columns, column_kernel)?;
+    let kernels = Kernels {
+        rows: row_kernel,
+        columns: column_kernel,
+    };
+    form(image, kernels, out);
+    Ok(())
 }

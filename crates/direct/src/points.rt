@@ -1,125 +1,88 @@
 // The exact sum and the inside weight at one picture place, formed from the window alone.
-ghost use Rattle.std.specs.Prelude.{◌≡◌, List, ℕ, ◌+◌, ◌*◌, ◌<◌, length};
+ghost use Rattle.std.specs.Prelude.{◌≡◌, Ok, ◌+◌, ◌*◌, ◌<◌, length};
 ghost use Rattle.spec.specs.Recipe.{recipe, order};
-ghost use Rattle.spec.specs.Picture.{picture, exact};
-ghost use Rattle.spec.specs.Refusals.{first, answer, reading_checks};
+ghost use Rattle.spec.specs.Picture.{pictured, exact, full_sides};
+ghost use Rattle.spec.specs.Refusals.{answer, reading_checks};
+ghost use Rattle.laws.proofs.Convolution.{ones};
 ghost use Rattle.laws.proofs.Inside.{axis};
 ghost use Rattle.laws.proofs.Refusals.{AcceptedPicture};
+ghost use Rattle.filter.specs.Answers.{size_told};
+ghost use Rattle.direct.specs.Windows.{through, Ready};
 ghost use Rattle.direct.specs.Answers.{weighed_sum, point_told};
 
-use crate::sums::{down, inside};
-use filter::FullSize;
-use spec::Filter;
-
-// The exact sum that the same-size blur takes at one picture place, and the inside weight there, or the
-// number of the refusal.
-#[derive(Drop)]
-pub enum Point {
-    At { sum: u64, weight: u64 },
-    Refused(u8),
-}
+use crate::picture_size;
+use crate::sums::{Kernels, down, inside};
+use filter::Sides;
+use spec::{Filter, Image, Refusal};
 
 // The exact sum over a window, and the weight of the part of it that is inside the picture.
-#[derive(Drop)]
-struct Window {
-    sum: u64,
-    weight: u64,
+#[derive(Clone, Copy)]
+pub struct Point {
+    pub sum: u64,
+    pub weight: u64,
 }
 
-// The number of the first of 1 to 6 and 15 that applies, 0 where none does, by the length of the slice
-// alone.
-fn refusal(
-    filter: Filter,
-    width: usize,
-    height: usize,
-    pixels: usize,
-    column: usize,
-    row: usize,
-) -> u8
-    ensures { (xs : List ℕ) → length xs ≡ pixels → result ≡ first (reading_checks (recipe filter) (picture width height xs) column row) }
+// The grown sides of a picture that has a place at this column and row: refused by 1 to 6 and 15.
+fn check_place(filter: Filter, image: Image, column: usize, row: usize) -> Result<Sides, Refusal>
+    ensures { let p = pictured image.entry in
+        size_told result ≡ answer (reading_checks (recipe filter) p column row) (full_sides (recipe filter) p.width p.height) }
 {
-    let answer = filter::full_size(filter, width, height);
-    match answer {
-        FullSize::Refused(number) => number,
-        FullSize::Sides {
-            width: _,
-            height: _,
-        } => {
-            if pixels != width * height {
-                6
-            } else if width <= column {
-                15
-            } else if height <= row {
-                15
-            } else {
-                0
-            }
-        }
+    let sides = picture_size(filter, image)?;
+    if image.width <= column || image.height <= row {
+        return Err(Refusal::Outside);
     }
+    Ok(sides)
+}
+
+// The inside weight at grown column i, row j.
+fn weight_at(image: Image, kernels: Kernels, i: usize, j: usize) -> u64
+    requires ready { Ready kernels.rows.now kernels.columns.now (pictured image) }
+    requires inside { (i + 1 < image.width + length kernels.rows.now) × (j + 1 < image.height + length kernels.columns.now) }
+    ensures { result ≡ through kernels.entry.rows.now (ones image.entry.width) i * through kernels.entry.columns.now (ones image.entry.height) j }
+{
+    inside(kernels.rows, i, image.width) * inside(kernels.columns, j, image.height)
 }
 
 // The window at grown column i, row j, with R and C filled into slices of exactly their lengths.
 fn window_sum(
     filter: Filter,
-    width: usize,
-    height: usize,
-    pixels: &[u8],
+    image: Image,
     rows: &mut [u64],
     columns: &mut [u64],
     i: usize,
     j: usize,
-) -> Window
-    requires accepted_picture { AcceptedPicture (recipe filter) (picture width height pixels.now) }
+) -> Result<Point, Refusal>
+    requires accepted_picture { AcceptedPicture (recipe filter) (pictured image) }
     requires rows_len { (length rows.old ≡ order (recipe filter).rows + 1) × (length columns.old ≡ order (recipe filter).columns + 1) }
-    requires i_bound { (i < width + order (recipe filter).rows) × (j < height + order (recipe filter).columns) }
-    ensures sum_value { result.sum ≡ exact (recipe filter) (picture width height pixels.now) i j }
-    ensures weight_value { result.weight ≡ axis (recipe filter).rows width i * axis (recipe filter).columns height j }
+    requires i_bound { (i < image.width + order (recipe filter).rows) × (j < image.height + order (recipe filter).columns) }
+    ensures { let p = pictured image.entry in
+        result ≡ Ok (record { sum = exact (recipe filter) p i j; weight = axis (recipe filter).rows p.width i * axis (recipe filter).columns p.height j }) }
 {
-    filter::kernel(filter.rows, rows);
-    filter::kernel(filter.columns, columns);
-    Window {
-        sum: down(pixels, width, height, rows, columns, i, j),
-        weight: inside(rows, i, width) * inside(columns, j, height),
-    }
+    filter::kernel(filter.rows, rows)?;
+    filter::kernel(filter.columns, columns)?;
+    let kernels = Kernels { rows, columns };
+    let sum = down(image, kernels, i, j);
+    let weight = weight_at(image, kernels, i, j);
+    Ok(Point { sum, weight })
 }
 
 // The exact sum that the same-size blur takes at a picture place, and the inside weight there, from the
 // window alone, cut to the picture: refused by 1 to 6 and 15.
-pub fn point_sum(
-    filter: Filter,
-    width: usize,
-    height: usize,
-    pixels: &[u8],
-    column: usize,
-    row: usize,
-) -> Point
-    ensures { let p = picture width height pixels.now in
+pub fn point_sum(filter: Filter, image: Image, column: usize, row: usize) -> Result<Point, Refusal>
+    ensures { let p = pictured image.entry in
         point_told result ≡ answer (reading_checks (recipe filter) p column row) (weighed_sum (recipe filter) p column row) }
 {
-    let number = refusal(filter, width, height, pixels.len(), column, row);
-    if number != 0 {
-        return Point::Refused(number);
-    }
-    let m = filter::measure(filter);
-    let rx = m.row_order;
-    let ry = m.column_order;
-    let z: usize = 0;
-    let row_end = rx + 1;
-    let column_end = ry + 1;
+    let sides = check_place(filter, image, column, row)?;
+    let rx = sides.width - image.width;
+    let ry = sides.height - image.height;
     let mut row_kernel = [0u64; 256];
     let mut column_kernel = [0u64; 256];
-    let found = window_sum(
+    window_sum(
         filter,
-        width,
-        height,
-        pixels,
-        &mut row_kernel[z..row_end],
-        &mut column_kernel[z..column_end],
+        image,
+        &mut row_kernel[..rx + 1],
+        &mut column_kernel[..ry + 1],
         column + rx / 2,
         row + ry / 2,
-    );
-    Point::At {
-        sum: found.sum,
-        weight: found.weight,
-    }
+    )
 }

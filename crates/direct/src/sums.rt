@@ -1,31 +1,19 @@
 // The exact sums, formed as they are defined, with the window cut to the picture.
-ghost use Rattle.std.specs.Prelude.{◌≡◌, ◌+◌, ◌-◌, ◌*◌, ◌<◌, ◌≤◌, ◌^◌, min, length};
+ghost use Rattle.std.specs.Prelude.{◌≡◌, ℕ, ◌+◌, ◌-◌, ◌*◌, ◌<◌, ◌≤◌, ◌^◌, length};
 ghost use Rattle.spec.specs.Words.{tab};
-ghost use Rattle.spec.specs.Picture.{picture};
+ghost use Rattle.spec.specs.Picture.{pictured};
 ghost use Rattle.laws.proofs.Convolution.{ones};
+ghost use Rattle.laws.proofs.Exact.{line};
 ghost use Rattle.laws.proofs.Kernels.{at};
 ghost use Rattle.direct.specs.Windows.{through, window, windows, mass, Ready};
 
-// A pixel as a number of 64 bits.
-fn wide(x: u8) -> u64
-    ensures { result ≡ x }
-{
-    x as u64
-}
+use spec::Image;
 
-// The window at i reaches back from i: where it starts to be inside a line of n places.
-fn window_start(i: usize, n: usize) -> usize
-    requires { 0 < n }
-    ensures { result ≡ i + 1 - n }
-{
-    if i < n { 0 } else { i - n + 1 }
-}
-
-// Where it ends: with its m places, or with the start of the line.
-fn window_end(i: usize, m: usize) -> usize
-    ensures { result ≡ min m (i + 1) }
-{
-    if i < m { i + 1 } else { m }
+// The coefficients of both lists, filled in.
+#[derive(Clone, Copy)]
+pub(crate) struct Kernels<'a> {
+    pub(crate) rows: &'a [u64],
+    pub(crate) columns: &'a [u64],
 }
 
 // The sum along a line at i.
@@ -33,96 +21,72 @@ fn across(line: &[u8], kernel: &[u64], i: usize) -> u64
     requires { (0 < length line.now) × (i + 1 < length line.now + length kernel.now) × (mass kernel.now ≤ 2 ^ 44) }
     ensures { (result ≡ through kernel.now (at line.now) i) × (result ≤ 65535 * mass kernel.now) }
 {
-    let end = window_end(i, kernel.len());
+    let start = (i + 1).saturating_sub(line.len());
+    let end = kernel.len().min(i + 1);
+    let back = line[i + 1 - end..i + 1 - start].iter().rev();
     let mut total: u64 = 0;
-    let mut a = window_start(i, line.len());
-    while a < end {
-        total += kernel[a] * wide(line[i - a]);
-        a += 1;
+    for (coefficient, pixel) in kernel[start..end].iter().zip(back) {
+        total += *coefficient * u64::from(*pixel);
     }
     total
 }
 
 // The coefficients of the window at i that fall inside a line of n places, added up.
 pub(crate) fn inside(kernel: &[u64], i: usize, n: usize) -> u64
-    requires { (0 < n) × (i + 1 < n + length kernel.now) × (mass kernel.now ≤ 2 ^ 44) }
+    requires { (0 < n) × (n ≤ 1024) × (i + 1 < n + length kernel.now) × (mass kernel.now ≤ 2 ^ 44) }
     ensures { (result ≡ through kernel.now (ones n) i) × (result ≤ mass kernel.now) }
 {
-    let end = window_end(i, kernel.len());
-    let mut total: u64 = 0;
-    let mut a = window_start(i, n);
-    while a < end {
-        total += kernel[a];
-        a += 1;
-    }
-    total
+    let start = (i + 1).saturating_sub(n);
+    let end = kernel.len().min(i + 1);
+    kernel[start..end].iter().sum()
+}
+
+// Row v of a picture.
+fn row_of<'a>(image: Image<'a>, v: usize) -> &'a [u8]
+    requires size { length image.pixels.now ≡ image.width * image.height }
+    requires inside { v < image.height }
+    ensures long { length result.now ≡ image.entry.width }
+    ensures pixels { (k : ℕ) → at result.now k ≡ line (pictured image.entry) v k }
+{
+    let from = v * image.width;
+    &image.pixels[from..from + image.width]
 }
 
 // The sum over the rows of the window at column i, row j.
-pub(crate) fn down(
-    pixels: &[u8],
-    width: usize,
-    height: usize,
-    rows: &[u64],
-    columns: &[u64],
-    i: usize,
-    j: usize,
-) -> u64
-    requires ready { Ready rows.now columns.now (picture width height pixels.now) }
-    requires i_bound { (i + 1 < width + length rows.now) × (j + 1 < height + length columns.now) }
-    ensures { result ≡ window rows.now columns.now (picture width height pixels.now) i j }
+pub(crate) fn down(image: Image, kernels: Kernels, i: usize, j: usize) -> u64
+    requires ready { Ready kernels.rows.now kernels.columns.now (pictured image) }
+    requires inside { (i + 1 < image.width + length kernels.rows.now) × (j + 1 < image.height + length kernels.columns.now) }
+    ensures { result ≡ window kernels.entry.rows.now kernels.entry.columns.now (pictured image.entry) i j }
 {
-    let end = window_end(j, columns.len());
+    let start = (j + 1).saturating_sub(image.height);
+    let end = kernels.columns.len().min(j + 1);
     let mut total: u64 = 0;
-    let mut b = window_start(j, height);
-    let mut to = (j - b + 1) * width;
-    while b < end {
-        let from = to - width;
-        total += columns[b] * across(&pixels[from..to], rows, i);
-        to = from;
-        b += 1;
+    for b in start..end {
+        total += kernels.columns[b] * across(row_of(image, j - b), kernels.rows, i);
     }
     total
 }
 
 // Grown row j.
-fn row(
-    pixels: &[u8],
-    width: usize,
-    height: usize,
-    rows: &[u64],
-    columns: &[u64],
-    j: usize,
-    out: &mut [u64],
-)
-    requires ready { Ready rows.now columns.now (picture width height pixels.now) }
-    requires out_len { (length out.old + 1 ≡ width + length rows.now) × (j + 1 < height + length columns.now) }
-    ensures { out.new ≡ tab (length out.old) (λ i. window rows.now columns.now (picture width height pixels.now) i j) }
+fn row(image: Image, kernels: Kernels, j: usize, out: &mut [u64])
+    requires ready { Ready kernels.rows.now kernels.columns.now (pictured image) }
+    requires out_len { (length out.old + 1 ≡ image.width + length kernels.rows.now) × (j + 1 < image.height + length kernels.columns.now) }
+    ensures { out.new ≡ tab (length out.old) (λ i. window kernels.entry.rows.now kernels.entry.columns.now (pictured image.entry) i j) }
 {
-    for i in 0..out.len() {
-        out[i] = down(pixels, width, height, rows, columns, i, j);
+    for (i, sum) in out.iter_mut().enumerate() {
+        *sum = down(image, kernels, i, j);
     }
 }
 
 // All grown rows, one after the other.
-pub(crate) fn form(
-    pixels: &[u8],
-    width: usize,
-    height: usize,
-    rows: &[u64],
-    columns: &[u64],
-    out: &mut [u64],
-)
-    requires ready { Ready rows.now columns.now (picture width height pixels.now) }
-    requires out_len { length out.old ≡ (height + length columns.now - 1) * (width + length rows.now - 1) }
-    ensures { out.new ≡ windows rows.now columns.now (picture width height pixels.now) }
+pub(crate) fn form(image: Image, kernels: Kernels, out: &mut [u64])
+    requires ready { Ready kernels.rows.now kernels.columns.now (pictured image) }
+    requires out_len { length out.old ≡ (image.height + length kernels.columns.now - 1) * (image.width + length kernels.rows.now - 1) }
+    ensures { out.new ≡ windows kernels.entry.rows.now kernels.entry.columns.now (pictured image.entry) }
 {
-    let grown_width = width + rows.len() - 1;
-    let grown_height = height + columns.len() - 1;
-    let mut from: usize = 0;
-    for j in 0..grown_height {
-        let to = from + grown_width;
-        row(pixels, width, height, rows, columns, j, &mut out[from..to]);
-        from = to;
+    let grown_width = image.width + kernels.rows.len() - 1;
+    for j in 0..image.height + kernels.columns.len() - 1 {
+        let from = j * grown_width;
+        row(image, kernels, j, &mut out[from..from + grown_width]);
     }
 }

@@ -1,4 +1,5 @@
 pub mod Holding
 pub mod Answering
+pub mod Finding
 pub mod Appending
 pub mod Trips

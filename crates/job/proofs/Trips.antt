@@ -3,7 +3,7 @@
 use mathlib.Core.Path.{◌≡◌, refl, sym, ap, ap₂, subst, ◌∙◌}
 use mathlib.Core.Bool.{false, not, ◌||◌}
 use mathlib.Core.List.{List, [], ◌∷◌, ◌++◌}
-use Prim.Native.Nat.{ℕ, zero, suc, ◌+◌, ◌*◌, ◌/◌, ◌%◌, ◌≤◌}
+use Prim.Native.Nat.{ℕ, ◌+◌, ◌*◌, ◌/◌, ◌%◌, ◌≤◌}
 use native.Mathlib.Nat.{mod-eq_of_lt, add-mul-mod_self_left, add-mul-div_left}
 use native.Mathlib.Omega.{arith}
 use lib.Dec.{ltb, eqb}
@@ -14,12 +14,12 @@ use Rattle.spec.specs.Words.{tab, part}
 use Rattle.spec.specs.Recipe.{Recipe, recipe}
 use Rattle.spec.specs.Picture.{Picture}
 use Rattle.spec.specs.Job.{mark, version, low16, read16, job_bytes, job_length, job_recipe, job_width, job_height, job_offset, job_picture}
-use Rattle.spec.specs.Refusals.{first, either, lent, bad_head, cut_short, other_total, other_pixels, too_long, size_checks, picture_checks, job_checks, write_checks}
+use Rattle.spec.specs.Refusals.{first, accepted, bad_head, cut_short, other_total, other_pixels, too_long, size_checks, picture_checks, job_checks, write_checks}
 use Rattle.laws.proofs.Lists.{length_part, part_within}
 use Rattle.laws.proofs.Numbers.{neither, both}
-use Rattle.laws.proofs.Refusals.{Sized, lent_accepted, none_both, first_none, size_numbered, picture_numbered, is_sized, is_accepted_picture, first_rest, after_output, picture_passed, same_length_so}
+use Rattle.laws.proofs.Refusals.{Sized, lent_accepted, read_accepted, none_both, first_none, size_numbered, picture_numbered, is_sized, is_accepted_picture, first_rest, after_output, picture_passed, same_length_so}
 use Rattle.job.specs.declared.reading.Job.{Job}
-use Rattle.job.specs.Answers.{no_job, job_told, job_read}
+use Rattle.job.specs.Answers.{job_told, job_read}
 use Rattle.job.specs.Writing.{JobWritten}
 use Rattle.job.specs.RoundTrip.{Same, read_picture, FileBytes, ReadBack, WrittenAgain}
 use Rattle.job.proofs.Holding.{held_recipe}
@@ -130,11 +130,6 @@ module _ (r : Recipe) (p : Picture) where
 
 -- ---- a job read back after writing is the same job
 
--- where nothing refuses a file, reading tells what it says
-told : (bytes : List ℕ) → first (job_checks bytes) ≡ 0 → job_read bytes ≡ job_told bytes
-unfolding job_read
-told bytes e = lent_accepted (job_checks bytes) (job_told bytes) (no_job (first (job_checks bytes))) e
-
 -- the sides of a file as they are told, and so its length
 job_total : (r : Recipe) (p : Picture) → Sized p.width p.height → length p.pixels ≡ p.width * p.height
     → length (file r p) ≡ job_length (job_recipe (file r p)) (job_width (file r p)) (job_height (file r p))
@@ -144,7 +139,8 @@ job_total r p s e =
     ∙ ap (λ n. 11 + length r.rows + length r.columns + n) e
     ∙ sym ((λ i. job_length (lists r p i) (width r p s i) (height r p s i)))
 
-read_file : (r : Recipe) (p : Picture) → first (picture_checks r p) ≡ 0 → job_read (file r p) ≡ job_told (file r p)
+-- where nothing refuses it, reading tells what it says
+read_file : (r : Recipe) (p : Picture) → first (picture_checks r p) ≡ 0 → job_read (file r p) ≡ accepted (job_told (file r p))
 unfolding picture_checks
 read_file r p z =
     let k = is_accepted_picture r p z in
@@ -161,7 +157,7 @@ read_back r p z out new number e w =
     let done = writes r p out new number z e w in
     let same : Same r p (file r p) (job_told (file r p)) =
     record {
-      accepted = refl;
+      accepted = read_file r p z;
       lists =
           held_recipe (job_recipe (file r p))
           (subst (λ (q : Recipe). length q.rows ≤ 48) (sym (lists r p)) k.recipe.rows_short)
@@ -170,8 +166,7 @@ read_back r p z out new number e w =
       picture = λ i. record { width = width r p k.sides i; height = height r p k.sides i; pixels = pixels r p k.sides i };
     } in (
       done.0,
-      subst (λ (l : List ℕ). Same r p l (job_read l)) (sym (done.1 ∙ is_file r p))
-          (subst (λ (j : Job). Same r p (file r p) j) (sym (read_file r p z)) same),
+      (job_told (file r p), subst (λ (l : List ℕ). Same r p l (job_told (file r p))) (sym (done.1 ∙ is_file r p)) same),
     )
 
 -- ---- an accepted file written again has the same bytes
@@ -264,28 +259,23 @@ module _ (bytes : List ℕ) (b : FileBytes bytes) (k : Accepted bytes) where
   unfolding job_picture job_offset
   picture_accepted = picture_passed (job_recipe bytes) (job_picture bytes) k.sides (omega (arith, k.total, length-drop (11 + m + n) bytes))
 
--- the number that reading tells is that of the first check that holds
-number_told : (bytes : List ℕ) → (job_read bytes).refusal ≡ 0 → first (job_checks bytes) ≡ 0
-unfolding job_read job_told lent either
-number_told bytes e = go (first (job_checks bytes)) e
-  where
-    go : (n : ℕ) → (either n (job_told bytes) (no_job n)).refusal ≡ 0 → n ≡ 0
-    go zero p = refl
-    go (suc n) p = p
+-- what reading tells where it accepts
+told : (bytes : List ℕ) (j : Job) → job_read bytes ≡ accepted j → (first (job_checks bytes) ≡ 0) × (j ≡ job_told bytes)
+unfolding job_read
+told bytes j e = read_accepted (job_checks bytes) (job_told bytes) j (sym e)
 
 pub written_again : WrittenAgain
 unfolding read_picture job_told job_picture
-written_again bytes b z out new number e w =
-    let none = number_told bytes z in
-    let k = is_accepted bytes none in
-    let is = told bytes none in
+written_again bytes b j z out new number e w =
+    let is = told bytes j z in
+    let k = is_accepted bytes is.0 in
     let short = (is_sized (job_recipe bytes) (job_width bytes) (job_height bytes) k.sides).0 in
-    let lists : recipe (job_read bytes).filter ≡ job_recipe bytes =
-    ap (λ (j : Job). recipe j.filter) is ∙ held_recipe (job_recipe bytes) short.rows_short short.columns_short in
-    let seen : read_picture (job_read bytes) bytes ≡ job_picture bytes = ap (λ (j : Job). read_picture j bytes) is in
+    let lists : recipe j.filter ≡ job_recipe bytes =
+    ap (λ (i : Job). recipe i.filter) is.1 ∙ held_recipe (job_recipe bytes) short.rows_short short.columns_short in
+    let seen : read_picture j bytes ≡ job_picture bytes = ap (λ (i : Job). read_picture i bytes) is.1 in
     let long = e ∙ k.total ∙ sym (job_length_lem bytes (job_width bytes) (job_height bytes)) in
     let done =
     writes (job_recipe bytes) (job_picture bytes) out new number (picture_accepted bytes b k) long
     (subst (λ (p : Picture). JobWritten (job_recipe bytes) p out number new) seen
-    (subst (λ (r : Recipe). JobWritten r (read_picture (job_read bytes) bytes) out number new) lists w)) in
+    (subst (λ (r : Recipe). JobWritten r (read_picture j bytes) out number new) lists w)) in
     (done.0, done.1 ∙ same_bytes bytes b k)

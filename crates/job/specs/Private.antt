@@ -1,9 +1,9 @@
 -- Words for the contracts of private functions; no exported contract uses them.
 use Rattle.std.specs.Prelude.{◌≡◌, List, [], ◌∷◌, ◌++◌, ℕ, ◌+◌, ◌≤◌, length, get_or, take, drop}
 use Rattle.spec.specs.Job.{job_recipe, job_width, job_height}
-use Rattle.spec.specs.Refusals.{Check, check, first, lent, other_total, size_checks}
+use Rattle.spec.specs.Refusals.{Check, check, Answer, answer, other_total, size_checks}
 use Rattle.job.specs.declared.reading.Job.{Job}
-use Rattle.job.specs.Answers.{no_job, job_told}
+use Rattle.job.specs.Answers.{job_told}
 
 -- a file with these counts whose lists and sides are all there
 pub record Whole (bytes : List ℕ) (rows columns : ℕ) : Type 0 where
@@ -18,8 +18,8 @@ unfoldable pub rest_checks : List ℕ → List Check
 rest_checks bytes = size_checks (job_recipe bytes) (job_width bytes) (job_height bytes) ++ check (other_total bytes) 14 ∷ []
 
 -- what reading it answers
-unfoldable pub rest_read : List ℕ → Job
-rest_read bytes = lent (rest_checks bytes) (job_told bytes) (no_job (first (rest_checks bytes)))
+unfoldable pub rest_read : List ℕ → Answer Job
+rest_read bytes = answer (rest_checks bytes) (job_told bytes)
 
 -- a slice into which bytes were written at a place, and the place after them
 pub record Appended (xs : List ℕ) (at : ℕ) (old : List ℕ) (next : ℕ) (new : List ℕ) : Type 0 where

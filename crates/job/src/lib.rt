@@ -6,5 +6,5 @@ mod reading;
 mod writing;
 
 pub use reading::{Job, read};
-pub use spec::{Cascade, Filter};
-pub use writing::{FileSize, size, write};
+pub use spec::{Cascade, Filter, Image, Refusal};
+pub use writing::{size, write};

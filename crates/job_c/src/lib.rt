@@ -8,23 +8,31 @@ ghost use Rattle.spec.specs.Recipe.{recipe};
 ghost use Rattle.spec.specs.Picture.{picture};
 ghost use Rattle.spec.specs.Job.{job_length};
 ghost use Rattle.spec.specs.Refusals.{first, lent, size_checks};
-ghost use Rattle.job.specs.Answers.{job_read};
 ghost use Rattle.job.specs.Writing.{JobWritten};
 ghost use Rattle.blocks.specs.Given.{given};
-ghost use Rattle.job_c.specs.Jobs.{given_job};
+ghost use Rattle.job_c.specs.Jobs.{given_job, job_read};
 
 use blocks::{filter_of, put_filter};
-use job::FileSize;
+use filter::no_filter;
+use spec::{Image, outcome};
 
 // Reads a job: 14, 1, 14, 2 to 5, 14. The two blocks are the answer: on a refusal all of them is zero.
 #[unsafe(no_mangle)]
 pub extern "C" fn bore_read_job(bytes: &[u8], block: &mut [u8; 98], words: &mut [usize; 3]) -> u8
     ensures { given_job result block.new words.new ≡ job_read bytes.now }
 {
-    let read = job::read(bytes);
-    put_filter(read.filter, block);
-    *words = [read.width, read.height, read.offset];
-    read.refusal
+    match job::read(bytes) {
+        Ok(read) => {
+            put_filter(read.filter, block);
+            *words = [read.width, read.height, read.offset];
+            0
+        }
+        Err(refusal) => {
+            put_filter(no_filter(), block);
+            *words = [0, 0, 0];
+            refusal.number()
+        }
+    }
 }
 
 // The length that a job will have: 1 to 5. On a refusal nothing is written.
@@ -38,14 +46,12 @@ pub extern "C" fn bore_job_size(
     ensures { let g = recipe (given block.now) in let cs = size_checks g width height in
         (result ≡ first cs) × (size.new ≡ lent cs (job_length g width height) size.old) }
 {
-    let filter = filter_of(block);
-    let answer = job::size(filter, width, height);
-    match answer {
-        FileSize::Refused(number) => number,
-        FileSize::Bytes(n) => {
+    match job::size(filter_of(block), width, height) {
+        Ok(n) => {
             *size = n;
             0
         }
+        Err(refusal) => refusal.number(),
     }
 }
 
@@ -60,6 +66,10 @@ pub extern "C" fn bore_write_job(
 ) -> u8
     ensures { JobWritten (recipe (given block.now)) (picture width height pixels.now) out.old result out.new }
 {
-    let filter = filter_of(block);
-    job::write(filter, width, height, pixels, out)
+    let image = Image {
+        width,
+        height,
+        pixels,
+    };
+    outcome(job::write(filter_of(block), image, out))
 }

@@ -5,24 +5,25 @@ use mathlib.Core.Path.{◌≡◌, refl, sym, ap, ◌∙◌}
 use mathlib.Core.Bool.{Bool, true, false, true≢false}
 use Prim.Native.Nat.{ℕ, ◌<◌}
 use lib.IntN.{ℤ, pos}
+use Rattle.std.specs.Prelude.{Result, Ok, Err}
+use Rattle.spec.specs.declared.refusal.Refusal.{Refusal}
 use Rattle.spec.specs.Recipe.{Recipe}
 use Rattle.spec.specs.Picture.{Picture}
-use Rattle.spec.specs.Gray.{Reading, gray_reading, sum_reading, quotient_reading, same_gray, same_leftover, expressed, reading}
+use Rattle.spec.specs.Gray.{Reading, gray_reading, sum_reading, quotient_reading, as_gray, same_gray, same_leftover, expressed, reading}
 use Rattle.spec.specs.Refusals.{first, picture_checks, reading_checks}
-use Rattle.laws.proofs.Refusals.{read_refused, read_accepted, none_both, picture_numbered}
-use Rattle.direct.proofs.Reading.{is_inside}
+use Rattle.laws.proofs.Results.{number_not_zero, err_told, ok_told}
+use Rattle.sample.proofs.Inside.{is_inside}
+use Rattle.sample.specs.declared.Sample.{Sample}
 use Rattle.sample.specs.declared.Sample.TheVariants as sample
-use Rattle.sample.specs.declared.Sampled.{Sampled}
-use Rattle.sample.specs.declared.Sampled.TheVariants as sampled
-use Rattle.sample.specs.Sampled.{GrayRead}
+use Rattle.sample.specs.Sampled.{sample_told, GrayRead}
 
-pub record AsDefined (r : Recipe) (p : Picture) (i j : ℕ) (x : Sampled) : Type 0 where
+pub record AsDefined (r : Recipe) (p : Picture) (i j : ℕ) (x : Result Sample Refusal) : Type 0 where
   pub picture : first (picture_checks r p) ≡ 0
   pub column : i < p.width
   pub row : j < p.height
   pub gray : ℕ
   pub leftover : ℤ
-  pub case : x ≡ sampled.Of (sample.Gray gray leftover)
+  pub case : x ≡ Ok (sample.Gray gray leftover)
   pub is_same_gray : gray ≡ same_gray r p i j
   pub is_same_leftover : leftover ≡ same_leftover r p i j
 
@@ -42,22 +43,21 @@ leftover_in (gray_reading g l) = l
 leftover_in (sum_reading s) = pos 0
 leftover_in (quotient_reading q) = pos 0
 
-accepted : (r : Recipe) (p : Picture) (i j : ℕ) → first (reading_checks r p i j) ≡ 0 → first (picture_checks r p) ≡ 0
-unfolding reading_checks
-accepted r p i j none = (none_both (picture_checks r p) _ (picture_numbered r p) none).0
+-- an accepted reading of the grey
+is_read : (r : Recipe) (p : Picture) (i j : ℕ) (s : Sample) → GrayRead r p i j (Ok s) → sample_told s ≡ reading as_gray r p i j
+is_read r p i j s (told, none) = (ok_told sample_told (reading_checks r p i j) (reading as_gray r p i j) s told).1
 
-pub as_defined : (r : Recipe) (p : Picture) (i j : ℕ) (x : Sampled) → GrayRead r p i j x → AsDefined r p i j x
+pub as_defined : (r : Recipe) (p : Picture) (i j : ℕ) (x : Result Sample Refusal) → GrayRead r p i j x → AsDefined r p i j x
 unfolding reading expressed same_gray same_leftover
-as_defined r p i j (sampled.Refused n) (told, none) =
-    let q = read_refused _ _ n told in
-    absurd (q.1 (sym q.0 ∙ none))
-as_defined r p i j (sampled.Of (sample.Sum s)) (told, none) = absurd (true≢false (sym (ap is_gray (read_accepted _ _ _ told).1)))
-as_defined r p i j (sampled.Of (sample.Mean s)) (told, none) = absurd (true≢false (sym (ap is_gray (read_accepted _ _ _ told).1)))
-as_defined r p i j (sampled.Of (sample.Gray g l)) (told, none) =
-    let place = is_inside r p i j none in
-    let is = (read_accepted _ _ _ told).1 in
+as_defined r p i j (Err e) (told, none) =
+    absurd (number_not_zero e (sym (err_told sample_told (reading_checks r p i j) (reading as_gray r p i j) e told) ∙ none))
+as_defined r p i j (Ok (sample.Sum s)) read = absurd (true≢false (sym (ap is_gray (is_read r p i j (sample.Sum s) read))))
+as_defined r p i j (Ok (sample.Mean q)) read = absurd (true≢false (sym (ap is_gray (is_read r p i j (sample.Mean q) read))))
+as_defined r p i j (Ok (sample.Gray g l)) read =
+    let place = is_inside r p i j read.1 in
+    let is = is_read r p i j (sample.Gray g l) read in
     record {
-      picture = accepted r p i j none;
+      picture = place.none;
       column = place.column;
       row = place.row;
       gray = g;

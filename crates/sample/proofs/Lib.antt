@@ -1,3 +1,4 @@
+pub mod Inside
 pub mod Readings
 pub mod Grays
 pub mod Leftovers

@@ -1,3 +1,4 @@
+pub mod Bounded
 pub mod Sampled
 pub mod Leftovers
 pub mod Between

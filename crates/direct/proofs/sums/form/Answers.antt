@@ -1,93 +1,37 @@
 -- What `search` does not find of `sums::form`.
-use mathlib.Core.Path.{◌≡◌, sym, ap, ◌∙◌}
-use Prim.Native.Nat.{◌+◌, ◌-◌, ◌*◌, ◌≤◌}
-use native.Mathlib.Nat.{suc-mul}
-use native.Mathlib.Numerals.{add-one}
-use native.Mathlib.Omega.{arith}
-use borrow.Author.Rules.{rules}
-use lib.ListN.{length, take, drop, length-drop}
-use lib.Seq.{length-take-le}
-use Rattle.spec.specs.Picture.{picture}
-use Rattle.laws.proofs.Slices.{Mixed, mixed_none, mixed_all, length_mixed}
+use Rattle.std.proofs.Common.{◌≡◌, ◌+◌, ◌-◌, ◌*◌, length, sym, ap, ◌∙◌, refl, arith, add-one}
+use native.Mathlib.Nat.{suc-mul, zero-mul}
+use Rattle.spec.specs.Picture.{pictured}
+use Rattle.laws.proofs.Slices.{mixed_none, mixed_all, length_lent}
 use Rattle.direct.specs.Windows.{windows}
 use Rattle.direct.proofs.Weighing.{length_windows, row_fits, row_more}
-use Rattle.direct.proofs.sums.form.Lts
-use Rattle.direct.proofs.sums.form.Reads
-use Rattle.direct.proofs.sums.form.Tie
 use Rattle.direct.proofs.sums.form.Goals as goal
 
 pub loop-j-init : goal.loop-j-init
 loop-j-init c =
     let args = c.args in
-    let p = picture args.width args.height args.pixels.now in (
-      search rules,
-      search rules,
-      search rules,
-      mixed_none _ _ (length_windows args.rows.now args.columns.now p ∙ sym c.requires.out_len),
-    )
-
--- the row that is lent ends inside the output
-turn-fits : (c : Lts.In-loop Tie.the-claims Reads.Pre Reads.Post goal.the-invariant-loop-j goal.the-decreases-loop-j Tie.handed_clauses) → let turn = c.loop-j in
-    let args = c.args in
-    turn.from + (args.width + length args.rows.now - 1) ≤ length args.out.now
-turn-fits c =
-    let turn = c.loop-j in
-    let args = c.args in
-    row_fits args.rows.now args.columns.now (picture args.width args.height args.pixels.now) turn.j turn.from (length args.out.now)
-    turn.invariant.2 c.loop-j-test.true c.requires.out_len
-
-pub overflow_add-to : goal.overflow_add-to
-overflow_add-to c = omega (arith, turn-fits c.before)
-
-pub offset_bounds-out-from : goal.offset_bounds-out-from
-offset_bounds-out-from c = omega (arith, turn-fits c.before)
-
-pub slice_bounds-row-start : goal.slice_bounds-row-start
-slice_bounds-row-start c = omega (arith, turn-fits c.before)
-
-pub slice_bounds-row-end : goal.slice_bounds-row-end
-slice_bounds-row-end c = omega (arith, turn-fits c.before)
-
--- it is a grown row long
-part-size : (c : Lts.In-loop Tie.the-claims Reads.Pre Reads.Post goal.the-invariant-loop-j goal.the-decreases-loop-j Tie.handed_clauses) → let turn = c.loop-j in
-    let args = c.args in
-    let width = args.width + length args.rows.now - 1 in
-    length (take (turn.from + width - turn.from) (drop turn.from turn.out)) ≡ width
-part-size c =
-    let turn = c.loop-j in
-    let args = c.args in
-    let width = args.width + length args.rows.now - 1 in
-    let t = turn-fits c in
-    let size : turn.from + width - turn.from ≡ width = omega arith in
-    length-take-le (turn.from + width - turn.from) (drop turn.from turn.out) (omega (arith, length-drop turn.from turn.out, turn.invariant.0))
-    ∙ size
-
-pub row-requires : goal.row-requires
-row-requires c =
-    let ready = c.requires.ready in
-    record { ready = ready; out_len = (omega (arith, part-size c.before.before, ready.rows), omega (arith, ready.high)) }
+    let all = windows args.kernels.rows.now args.kernels.columns.now (pictured args.image) in
+    rw zero-mul
+    (mixed_none all args.out.now (length_windows args.kernels.rows.now args.kernels.columns.now (pictured args.image) ∙ sym c.requires.out_len))
 
 pub loop-j-preserved : goal.loop-j-preserved
 loop-j-preserved c =
-    let turn = c.loop-j in
     let args = c.args in
-    let p = picture args.width args.height args.pixels.now in
-    let width = args.width + length args.rows.now - 1 in
-    let row = c.row in
-    let next : Mixed (turn.from + width) (windows args.rows.now args.columns.now p) args.out.now _ =
-    row_more args.rows.now args.columns.now p turn.j turn.from _ row.new.out turn.invariant.3 turn.invariant.2
-    c.loop-j-test.true (turn-fits c.before.before.before.before.before) (part-size c.before.before.before.before.before) row.ensures in (
-      length_mixed next,
-      search rules,
-      omega (arith, turn.invariant.2, suc-mul turn.j width, ap (λ n. n * width) (add-one turn.j)),
-      next,
-    )
+    let rows = args.kernels.rows.now in
+    let columns = args.kernels.columns.now in
+    let p = pictured args.image in
+    let width = args.image.width + length rows - 1 in
+    let j = c.loop-j.j in
+    let fits = row_fits rows columns p j (j * width) (length args.out.now) refl (omega arith) c.requires.out_len in
+    let long = length_lent (j * width) width c.loop-j.out (omega arith) in
+    let next = row_more rows columns p j (j * width) _ c.row.new.out c.loop-j.invariant refl (omega arith) fits long c.row.ensures in
+    let more : j * width + width ≡ (j + 1) * width = omega (arith, suc-mul j width, ap (λ n. n * width) (add-one j)) in
+    rw (← more) next
 
 pub returns : goal.returns
 returns c =
     let args = c.args in
-    let turn = c.loop-j in
-    let height = args.height + length args.columns.now - 1 in
-    let done : turn.j ≡ height = omega arith in
-    mixed_all turn.invariant.3
-    (omega (arith, c.requires.out_len, turn.invariant.2, ap (λ n. n * (args.width + length args.rows.now - 1)) done))
+    let height = args.image.height + length args.kernels.columns.now - 1 in
+    let done : c.loop-j.j ≡ height = omega arith in
+    mixed_all c.loop-j.invariant
+    (omega (arith, c.requires.out_len, ap (λ n. n * (args.image.width + length args.kernels.rows.now - 1)) done))

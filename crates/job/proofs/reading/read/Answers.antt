@@ -1,54 +1,59 @@
 -- `job::reading::read` meets its contract: head, counts and length, and then by that of `rest`.
 -- Assumes nothing.
-use mathlib.Core.Path.{◌≡◌, refl, sym, ◌∙◌}
-use mathlib.Core.Bool.{false, ◌||◌}
+use mathlib.Core.Path.{◌≡◌, refl, sym, ap, ap₂, ◌∙◌}
+use mathlib.Core.Bool.{true, false, ◌||◌}
+use Prim.Native.Nat.{ℕ, ◌≤◌, ◌<◌}
 use native.Mathlib.Omega.{arith}
 use lib.Dec.{ltb}
-use lib.ListN.{get_or}
-use borrow.Author.Tests.{ltb-false}
-use Rattle.spec.specs.Refusals.{bad_head}
-use Rattle.laws.proofs.Numbers.{neither}
+use borrow.Author.Tests.{lt-ltb, le-ltb}
 use Rattle.job.proofs.Answering.{by_head, seven, by_long, by_cut, by_rest}
-use Rattle.job.proofs.reading.read.Lts
-use Rattle.job.proofs.reading.read.Reads
-use Rattle.job.proofs.reading.read.Tie
 use Rattle.job.proofs.reading.read.Goals as goal
+use Rattle.job.proofs.reading.read.Goals.{then-row_count-gt48-via-then-row_count-gt48, then-row_count-gt48-via-else-row_count-gt48+then-column_count-gt48}
 
 pub returns-then-bad_head : goal.returns-then-bad_head
-returns-then-bad_head c = c.no_job.ensures ∙ by_head _ (sym c.bad_head.ensures ∙ c.if-bad_head.true)
-
-good_head : (c : Lts.Else1 Tie.the-claims Reads.Pre Reads.Post) → bad_head c.args.bytes.now ≡ false
-good_head c = sym c.bad_head.ensures ∙ c.if-bad_head.false
+returns-then-bad_head c = by_head _ (sym c.bad_head.ensures ∙ c.if-bad_head.true)
 
 pub bounds-bytes-5 : goal.bounds-bytes-5
-bounds-bytes-5 c = omega (arith, seven _ (good_head c.before.before))
+bounds-bytes-5 c = omega (arith, seven _ (sym c.bad_head.ensures ∙ c.if-bad_head.false))
 
 pub bounds-bytes-6 : goal.bounds-bytes-6
-bounds-bytes-6 c = omega (arith, seven _ (good_head c.before.before.before))
+bounds-bytes-6 c = omega (arith, seven _ (sym c.bad_head.ensures ∙ c.if-bad_head.false))
 
-pub returns-then-too_long : goal.returns-then-too_long
-returns-then-too_long c = c.no_job-then-too_long.ensures ∙ by_long _ (good_head c.before.before.before.before.before.before) (sym c.too_long.ensures ∙ c.if-too_long.true)
+-- whether a list is too long, by the counts
+neither_long : (m n : ℕ) → m ≤ 48 → n ≤ 48 → (ltb 48 m || ltb 48 n) ≡ false
+neither_long m n h g = ap₂ ◌||◌ (le-ltb 48 m h) (le-ltb 48 n g)
 
--- neither list is too long
-few : (c : Lts.Else2 Tie.the-claims Reads.Pre Reads.Post) →
-    let bytes = c.args.bytes.now in
-    (ltb 48 (get_or bytes 5 0) || ltb 48 (get_or bytes 6 0)) ≡ false
-few c = sym c.too_long.ensures ∙ c.if-too_long.false
+rows_long : (m n : ℕ) → 48 < m → (ltb 48 m || ltb 48 n) ≡ true
+rows_long m n h = ap (λ b. b || ltb 48 n) (lt-ltb 48 m h)
 
-pub returns-then-bytes-wide : goal.returns-then-bytes-wide
-returns-then-bytes-wide c = c.no_job-then-bytes-wide.ensures ∙ by_cut _ (good_head c.before.before.before.before.before.before.before.before.before) (few c.before.before.before.before.before) (omega arith)
+columns_long : (m n : ℕ) → m ≤ 48 → 48 < n → (ltb 48 m || ltb 48 n) ≡ true
+columns_long m n h g = ap₂ ◌||◌ (le-ltb 48 m h) (lt-ltb 48 n g)
+
+pub returns-then-row_count-gt48 : goal.returns-then-row_count-gt48
+returns-then-row_count-gt48 c =
+    let good = sym c.bad_head.ensures ∙ c.if-bad_head.false in
+    elim c.then-row_count-gt48.branch [
+      | then-row_count-gt48-via-then-row_count-gt48 w ↦ by_long _ good (rows_long _ _ w.if-row_count-gt48.true)
+      | then-row_count-gt48-via-else-row_count-gt48+then-column_count-gt48 w ↦
+          by_long _ good (columns_long _ _ w.if-row_count-gt48.false w.if-column_count-gt48.true)
+    ]
+
+pub returns-then-bytes-from : goal.returns-then-bytes-from
+returns-then-bytes-from c =
+    let good = sym c.bad_head.ensures ∙ c.if-bad_head.false in
+    by_cut _ good (neither_long _ _ c.if-row_count-gt48.false c.if-column_count-gt48.false) (omega arith)
 
 pub rest-requires : goal.rest-requires
 rest-requires c =
-    let bytes = c.args.bytes.now in
-    let counts = neither (ltb 48 (get_or bytes 5 0)) (ltb 48 (get_or bytes 6 0)) (few c.before.before.before.before) in
     record {
       row_count = refl;
       column_count = refl;
-      rows_short = ltb-false 48 (get_or bytes 5 0) counts.0;
-      columns_short = ltb-false 48 (get_or bytes 6 0) counts.1;
+      rows_short = c.if-row_count-gt48.false;
+      columns_short = c.if-column_count-gt48.false;
       long = omega arith;
     }
 
 pub returns : goal.returns
-returns c = c.rest.ensures ∙ by_rest _ (good_head c.before.before.before.before.before.before.before.before.before) (few c.before.before.before.before.before) (omega arith)
+returns c =
+    let good = sym c.bad_head.ensures ∙ c.if-bad_head.false in
+    c.rest.ensures ∙ by_rest _ good (neither_long _ _ c.if-row_count-gt48.false c.if-column_count-gt48.false) (omega arith)

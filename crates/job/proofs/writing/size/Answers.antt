@@ -1,29 +1,31 @@
 -- `job::writing::size` meets its contract: the answer of `filter::full_size`, case by case.
 -- Assumes nothing.
-use mathlib.Core.Path.{◌≡◌, sym, ap, ◌∙◌}
-use Prim.Native.Nat.{◌+◌, ◌*◌}
+use mathlib.Core.Path.{◌≡◌}
+use Prim.Native.Nat.{ℕ, ◌+◌, ◌*◌}
 use native.Mathlib.Omega.{arith}
+use Rattle.std.proofs.lemmas.Result.{err_from_is_err_and}
 use Rattle.spec.specs.Recipe.{recipe}
 use Rattle.spec.specs.Job.{job_length}
-use Rattle.spec.specs.Refusals.{accepted}
-use Rattle.laws.proofs.Refusals.{read_refused, read_accepted, answer_refused, answer_accepted, is_sized}
+use Rattle.laws.proofs.Refusals.{is_sized}
+use Rattle.laws.proofs.Results.{told_err, told_ok, err_told, ok_told}
+use Rattle.filter.specs.Answers.{sides}
 use Rattle.job.proofs.Answering.{area, length_by_counts}
 use Rattle.job.proofs.writing.size.Goals as goal
 
+pub returns-in_err-full_size : goal.returns-in_err-full_size
+returns-in_err-full_size c =
+    let p = err_from_is_err_and c.from_residual.result c.from_residual.ensures.1 in
+    rw (p.1, p.2) (told_err (λ (n : ℕ). n) _ _ _ (err_told sides _ _ _ c.in_err-full_size.ensures))
+
 pub overflow_mul-result : goal.overflow_mul-result
-overflow_mul-result c = omega (arith, area _ _ (is_sized _ _ _ (read_accepted _ _ _ c.in-Sides.ensures).0).1)
+overflow_mul-result c = omega (arith, area _ _ (is_sized _ _ _ (ok_told sides _ _ _ c.in_ok-full_size.ensures).0).1)
 
-pub overflow_add-result-in-Sides-2 : goal.overflow_add-result-in-Sides-2
-overflow_add-result-in-Sides-2 c = omega (arith, area _ _ (is_sized _ _ _ (read_accepted _ _ _ c.in-Sides.ensures).0).1)
+pub overflow_add-result-2 : goal.overflow_add-result-2
+overflow_add-result-2 c = omega (arith, area _ _ (is_sized _ _ _ (ok_told sides _ _ _ c.in_ok-full_size.ensures).0).1)
 
-pub returns-in-Refused : goal.returns-in-Refused
-returns-in-Refused c =
-    let q = read_refused _ _ _ c.in-Refused.ensures in
-    sym (answer_refused _ _ _ q.0 q.1)
-
-pub returns-in-Sides : goal.returns-in-Sides
-returns-in-Sides c =
+pub returns : goal.returns
+returns c =
     let a = c.args in
-    let size : 11 + c.wide.result + c.wide-in-Sides.result + a.width * a.height ≡ job_length (recipe a.filter) a.width a.height =
+    let size : 11 + (c.from.result + c.from-2.result) + a.width * a.height ≡ job_length (recipe a.filter) a.width a.height =
     omega (arith, length_by_counts a.filter a.width a.height) in
-    ap accepted size ∙ sym (answer_accepted _ _ (read_accepted _ _ _ c.in-Sides.ensures).0)
+    told_ok (λ (n : ℕ). n) _ _ _ (ok_told sides _ _ _ c.in_ok-full_size.ensures).0 size
