@@ -1,86 +1,79 @@
--- A picture row in three parts: the places at its rims in their order, what is kept from row to row, and that the rims and the middle
--- together are the row.
+-- A picture row in three parts: what is written at both rims, what is kept from row to row, and that the rims and the middle together are
+-- the row.
 -- Assumes nothing.
 use mathlib.Core.Path.{◌≡◌, refl, sym, ap, ap₂, subst, ◌∙◌}
-use mathlib.Core.Logic.{◌⊎◌, inl, inr, ⊎_elim}
-use mathlib.Core.Bool.{Bool, true, false, cond}
-use mathlib.Core.List.{List, ◌++◌, map}
+use mathlib.Core.List.{List, [], ◌++◌, map}
 use Prim.Native.Nat.{ℕ, ◌+◌, ◌-◌, ◌*◌, ◌^◌, ◌≤◌, ◌<◌}
-use native.Mathlib.Nat.{mul-zero, div-zero}
+use native.Mathlib.Nat.{le_refl, mul-zero, div-zero}
 use native.Mathlib.Decide.{dec_le, dec_lt}
 use native.Mathlib.Omega.{arith}
-use borrow.Author.Tests.{eqb-true, eqb-false}
-use lib.Dec.{eqb}
-use lib.ListN.{length, get_or, set, take, drop, replicate, length-replicate, get_or-replicate, get_or-eq_default}
-use lib.Seq.{ext_get_or, get_or-set_same, get_or-set_other}
+use lib.IntN.{ℤ}
+use lib.ListN.{length, get_or, set, take, drop, replicate, length-replicate, get_or-replicate, get_or-eq_default, get_or-append}
+use lib.Seq.{ext_get_or, length-take-le, get_or-take, get_or-set_same, get_or-set_other}
+use borrow.Author.Count.{below_more}
 use Rattle.spec.specs.Words.{tab}
 use Rattle.laws.proofs.Lists.{length_tab, get_d_tab, tab_map}
 use Rattle.laws.proofs.Slices.{length_between, get_d_between, length_came, came_before, came_inside, came_after}
+use Rattle.spec.specs.declared.refusal.Refusal.{Refusal}
+use Rattle.spec.specs.Refusals.{first, outcome}
+use Rattle.laws.proofs.Refusals.{after_outputs, lent_accepted}
+use Rattle.laws.proofs.Results.{number_not_zero}
 use Rattle.gray.specs.declared.rounding.Divisor.{Divisor}
-use Rattle.gray.specs.Division.{reciprocal_bits, reciprocal_of, divisor_with, divisor, Divides}
+use Rattle.gray.specs.Rounded.{length_checks, Shaded}
+use Rattle.std.specs.Prelude.{Result, Ok, Err, IsOk}
+use Rattle.gray.specs.Division.{reciprocal_bits, reciprocal_of, divisor, shade_gray, shade_leftover}
 use Rattle.blur.specs.declared.rims.Span.{Span}
 use Rattle.blur.specs.declared.rims.Band.{Band}
-use Rattle.blur.specs.Rims.{weight_at, Weighty, Dim, Level, AtRim, rim_place, Inverted, Ready, Shades, shaded}
+use Rattle.blur.specs.Rims.{weight_at, Dim, Level, OnRims, Ready, shaded}
 
--- ---- the places of the rims
+-- ---- rows, and parts of them
 
-module _ (s : Span) (some : s.from < s.to) where
-  -- the next from k on: k itself, or past the middle
-  next : (k : ℕ) → ((k ≡ s.from) × (rim_place s k ≡ s.to)) ⊎ ((k ≡ s.from → ⊥) × (rim_place s k ≡ k))
-  next k = go (eqb k s.from) (eqb-true k s.from) (eqb-false k s.from)
-    where
-      go : (b : Bool) → (b ≡ true → k ≡ s.from) → (b ≡ false → k ≡ s.from → ⊥)
-          → ((k ≡ s.from) × (cond b s.to k ≡ s.to)) ⊎ ((k ≡ s.from → ⊥) × (cond b s.to k ≡ k))
-      go true is other = inl (is refl, refl)
-      go false is other = inr (other refl, refl)
+-- one more entry is written
+pub one_more : {A : Type 0} (f : ℕ → A) (d : A) (l : List A) (i : ℕ) (v : A) → i < length l → v ≡ f i → ((k : ℕ) → k < i → get_or l k d ≡ f k)
+    → (k : ℕ) → k < i + 1 → get_or (set l i v) k d ≡ f k
+one_more f d l i v inside is before =
+    below_more (λ k. get_or (set l i v) k d ≡ f k) i (λ k h. get_or-set_other l i k v d (λ e. omega arith) ∙ before k h)
+    (get_or-set_same l i v d inside ∙ is)
 
-  -- the first is at a rim, and so is the one after a place at a rim
-  pub rim_first : AtRim s (rim_place s 0)
-  rim_first h = ⊎_elim (λ p. omega (arith, p.1)) (λ p. absurd (p.0 (omega (arith, p.1)))) (next 0)
+-- a list with what is made at each column is the row
+pub is_shaded : {A : Type 0} (f : ℕ → ℕ → A) (d : A) (across : List ℕ) (down : ℕ) (sums : List ℕ) (l : List A) → length l ≡ length across
+    → ((k : ℕ) → k < length across → get_or l k d ≡ f (weight_at across down k) (get_or sums k 0)) → l ≡ shaded f across down sums
+is_shaded f d across down sums l long is =
+    let row : ℕ → _ = λ k. f (weight_at across down k) (get_or sums k 0) in
+    ext_get_or d l (shaded f across down sums) (long ∙ sym (length_tab (length across) row))
+    (λ k h. let in_row : k < length across = omega arith in is k in_row ∙ sym (get_d_tab (length across) row k d in_row))
 
-  module _ (k : ℕ) (at : AtRim s k) where
-    pub rim_next : AtRim s (rim_place s (k + 1))
-    rim_next h =
-        ⊎_elim (λ p. omega (arith, p.1))
-        (λ p.
-        elim (dec_lt k s.from) [
-          | yes l ↦ absurd (p.0 (omega (arith, p.1)))
-          | no l ↦ omega (arith, p.1, at (omega arith))
-        ]) (next (k + 1))
+module _ {A : Type 0} (f : ℕ → ℕ → A) (d : A) (across : List ℕ) (down : ℕ) (sums : List ℕ) where
+  -- what is made at the columns before a, and at those from a on
+  pub shaded_front : (a : ℕ) → a ≤ length across → (k : ℕ) → k < a
+      → get_or (shaded f (take a across) down (take a sums)) k d ≡ f (weight_at across down k) (get_or sums k 0)
+  shaded_front a inside k h =
+      get_d_tab (length (take a across)) (λ k. f (weight_at (take a across) down k) (get_or (take a sums) k 0)) k d (omega (arith, length-take-le a across inside))
+      ∙ ap₂ (λ x s. f (x * down) s) (get_or-take a across k 0 h) (get_or-take a sums k 0 h)
 
-    pub rim_later : k < rim_place s (k + 1)
-    rim_later = ⊎_elim (λ p. omega (arith, p.0, p.1)) (λ p. omega (arith, p.1)) (next (k + 1))
+  pub shaded_back : (a : ℕ) → a ≤ length across → length sums ≡ length across → (k : ℕ) → k < length across - a
+      → get_or (shaded f (take (length across - a) (drop a across)) down (take (length sums - a) (drop a sums))) k d
+      ≡ f (weight_at across down (a + k)) (get_or sums (a + k) 0)
+  shaded_back a inside size k h =
+      let xs = take (length across - a) (drop a across) in
+      let ys = take (length sums - a) (drop a sums) in
+      get_d_tab (length xs) (λ k. f (weight_at xs down k) (get_or ys k 0)) k d (omega (arith, length_between 0 across a (length across) inside (le_refl (length across))))
+      ∙ ap₂ (λ x s. f (x * down) s)
+      (get_d_between 0 across a (length across) inside (le_refl (length across)) k h)
+      (get_d_between 0 sums a (length sums) (omega arith) (le_refl (length sums)) k (omega arith))
 
-  -- what holds at all places of the rims before one of them
-  module _ (P : ℕ → Type 0) where
-    pub none_before : (j : ℕ) → j < rim_place s 0 → AtRim s j → P j
-    none_before j h r = ⊎_elim (λ p. absurd (omega (arith, p.0, p.1, r (omega (arith, p.0))))) (λ p. absurd (omega (arith, p.1))) (next 0)
-
-    pub one_more : (k : ℕ) → ((j : ℕ) → j < k → AtRim s j → P j) → P k → (j : ℕ) → j < rim_place s (k + 1) → AtRim s j → P j
-    one_more k before here j h r =
-        elim (dec_lt j k) [
-          | yes l ↦ before j l r
-          | no l ↦
-              elim (dec_lt k j) [
-                | yes g ↦ ⊎_elim (λ p. absurd (omega (arith, p.0, p.1, r (omega (arith, p.0))))) (λ p. absurd (omega (arith, p.1))) (next (k + 1))
-                | no g ↦ let e : k ≡ j = omega arith in subst P e here
-              ]
-        ]
-
--- a value that is stored at k, where all places of the rims before hold what they should; n is the next of them
-pub stored : {A : Type 0} (d : A) (s : Span) → s.from < s.to → (f : ℕ → A) (l : List A) (k n : ℕ) (v : A) → k < length l → n ≡ rim_place s (k + 1) → v ≡ f k
-    → ((j : ℕ) → j < k → AtRim s j → get_or l j d ≡ f j) → (j : ℕ) → j < n → AtRim s j → get_or (set l k v) j d ≡ f j
-stored d s some f l k n v h next e before j g r =
-    one_more s some (λ j. get_or (set l k v) j d ≡ f j) k
-    (λ j g r. get_or-set_other l k j v d (λ q. omega arith) ∙ before j g r) (get_or-set_same l k v d h ∙ e) j (subst (λ m. j < m) next g) r
-
--- ---- what divides
-
-pub rim_divides : (across : List ℕ) (down : ℕ) (s : Span) (reciprocals : List ℕ) → Weighty across down → Inverted across down s reciprocals
-    → (k : ℕ) → k < length across → AtRim s k → (by : Divisor) → by ≡ divisor_with (weight_at across down k) (get_or reciprocals k 0)
-    → Divides (weight_at across down k) by
-rim_divides across down s reciprocals w is k h r by e =
-    record { not_zero = (w k h).0; light = (w k h).1; is = e ∙ ap (divisor_with (weight_at across down k)) (is k h r) }
+-- what is written at the columns of one rim and then of the other stands at both
+pub both_rims : {A : Type 0} (d : A) (s : Span) (e : ℕ) (ys back zs : List A) → s.from < s.to → s.to ≤ e → e ≤ length (ys ++ back) → length ys ≡ s.from
+    → length zs ≡ e - s.to → (f : ℕ → A) → ((k : ℕ) → k < s.from → get_or ys k d ≡ f k) → ((k : ℕ) → k < e - s.to → get_or zs k d ≡ f (s.to + k))
+    → (k : ℕ) → k < e → (s.from ≤ k → s.to ≤ k) → get_or (take s.to (ys ++ back) ++ (zs ++ drop (e - s.to) (drop s.to (ys ++ back)))) k d ≡ f k
+both_rims d s e ys back zs some fits room first second f left right k below at =
+    elim (dec_lt k s.from) [
+      | yes h ↦ came_before d (ys ++ back) s.to e fits room zs k (omega arith) ∙ get_or-append ys back d k (omega (arith, first)) ∙ left k h
+      | no h ↦
+          let past : s.to ≤ k = at (omega arith) in
+          let place : s.to + (k - s.to) ≡ k = omega arith in
+          came_inside d (ys ++ back) s.to e fits room zs k past (omega (arith, second)) ∙ right (k - s.to) (omega arith) ∙ ap f place
+    ]
 
 -- ---- runs and bands
 
@@ -107,18 +100,37 @@ get_d_zeros n k =
     ]
 
 -- a band before the first row
-pub ready_none : (across reciprocals : List ℕ) (band : Band) → Level across band.middle → band.down ≡ 0 → band.by ≡ divisor 0
-    → length across ≤ length reciprocals → ((k : ℕ) → get_or reciprocals k 0 ≡ 0) → Ready across reciprocals band
-ready_none across reciprocals band level none by room black =
-    let weightless : (k : ℕ) → weight_at across band.down k ≡ 0 = λ k. ap (λ x. get_or across k 0 * x) none ∙ mul-zero (get_or across k 0) in
+pub ready_none : (band : Band) → Level band.across.now band.middle → band.down ≡ 0 → band.by ≡ divisor 0 → length band.across.now ≤ 1024
+    → ((k : ℕ) → get_or band.reciprocals k 0 ≡ 0) → Ready band
+ready_none band level none by short black =
+    let weightless : (k : ℕ) → weight_at band.across.now band.down k ≡ 0 =
+    λ k. ap (λ x. get_or band.across.now k 0 * x) none ∙ mul-zero (get_or band.across.now k 0) in
     record {
       level = level;
-      room = room;
+      short = short;
       by = by ∙ ap divisor (sym (weightless band.middle.from));
       rims = λ k h r. black k ∙ sym (ap reciprocal_of (weightless k) ∙ div-zero (2 ^ reciprocal_bits));
     }
 
 -- ---- the middle, written behind the rims
+
+-- a call without a number is accepted
+pub is_accepted : {A : Type 0} (r : Result A Refusal) → outcome r ≡ 0 → IsOk r
+is_accepted (Ok a) z = refl
+is_accepted (Err e) z = absurd (number_not_zero e z)
+
+-- sums are rounded into outputs of their length
+module _ (by : Divisor) (sums out : List ℕ) (left : List ℤ) (e : length out ≡ length sums) (f : length left ≡ length sums)
+    (number : ℕ) (new : List ℕ) (new_left : List ℤ) (told : Shaded by sums out left number new new_left) where
+  none : first (length_checks sums out left) ≡ 0
+  unfolding first
+  none = after_outputs [] (length out) (length left) (length sums) e f
+
+  pub rounded_number : number ≡ 0
+  rounded_number = told.answer ∙ none
+
+  pub rounded_all : (new ≡ map (shade_gray by) sums) × (new_left ≡ map (shade_leftover by) sums)
+  rounded_all = (told.grays ∙ lent_accepted _ _ out none, told.leftovers ∙ lent_accepted _ _ left none)
 
 -- the sums there, by the one weight
 pub middle_dim : (across sums : List ℕ) (down : ℕ) (s : Span) → Level across s → length sums ≡ length across → (most : ℕ) → Dim most across down sums
@@ -141,7 +153,7 @@ middle_dim across sums down s level size most dim k =
 
 -- the row, of greys and of leftovers alike
 pub whole_row : {A : Type 0} (f : ℕ → ℕ → A) (d : A) (across sums : List ℕ) (down : ℕ) (s : Span) → Level across s → length sums ≡ length across
-    → (l : List A) → length l ≡ length across → Shades f d across down s sums l
+    → (l : List A) → length l ≡ length across → OnRims across s (λ k. get_or l k d ≡ f (weight_at across down k) (get_or sums k 0))
     → (ys : List A) → ys ≡ map (f (weight_at across down s.from)) (take (s.to - s.from) (drop s.from sums))
     → take s.from l ++ (ys ++ drop (s.to - s.from) (drop s.from l)) ≡ shaded f across down sums
 whole_row f d across sums down s level size l fits rims ys is =

@@ -69,14 +69,18 @@ module _ (r : Recipe) (p : Picture) (ok : AcceptedPicture r p) (across down : Li
           (λ i h. ap₂ f (weight_is i h) (taken i h))
 
 -- the weights that are filled in along an axis, for a list that is accepted as a recipe of its own
-pub axis_filled : (ns : List ℕ) → Light ns → (n : ℕ) → (0 < n) × (n ≤ 1024) → (old new : List ℕ) (number : ℕ) → length old ≡ n
-    → AxisFilled ns n old number new → new ≡ axis_weights ns n
-unfolding axis_checks cell_checks bad_side first
-axis_filled ns l n side old new number size f =
-    let good : bad_side n ≡ false = ap₂ ◌||◌ (ne_eqb n 0 (λ e. omega arith)) (le-ltb 1024 n side.1) in
-    let five : first (cell_checks (alone ns) n) ≡ 0 =
-    first_then (recipe_checks (alone ns)) (bad_side n) 5 (recipe_numbered (alone ns)) (light_alone ns l) ∙ ap (λ b. cond b 5 0) good in
-    let none : first (axis_checks ns n (length old)) ≡ 0 =
-    first_rest (cell_checks (alone ns) n) _ (numbered_more (recipe_checks (alone ns)) (bad_side n) 4 (recipe_numbered (alone ns))) five
-    ∙ after_output [] (length old) n size in
-    f.slice ∙ lent_accepted _ _ old none
+module _ (ns : List ℕ) (l : Light ns) (n : ℕ) (side : (0 < n) × (n ≤ 1024)) (old new : List ℕ) (number : ℕ) (size : length old ≡ n) (f : AxisFilled ns n old number new) where
+  none : first (axis_checks ns n (length old)) ≡ 0
+  unfolding axis_checks cell_checks bad_side first
+  none =
+      let good : bad_side n ≡ false = ap₂ ◌||◌ (ne_eqb n 0 (λ e. omega arith)) (le-ltb 1024 n side.1) in
+      let five : first (cell_checks (alone ns) n) ≡ 0 =
+      first_then (recipe_checks (alone ns)) (bad_side n) 5 (recipe_numbered (alone ns)) (light_alone ns l) ∙ ap (λ b. cond b 5 0) good in
+      first_rest (cell_checks (alone ns) n) _ (numbered_more (recipe_checks (alone ns)) (bad_side n) 4 (recipe_numbered (alone ns))) five
+      ∙ after_output [] (length old) n size
+
+  pub axis_number : number ≡ 0
+  axis_number = f.answer ∙ none
+
+  pub axis_filled : new ≡ axis_weights ns n
+  axis_filled = f.slice ∙ lent_accepted _ _ old none

@@ -1,4 +1,5 @@
-pub mod Parts
 pub mod Nearest
-pub mod Pairs
+pub mod Parts
 pub mod Planning
+pub mod Passes
+pub mod Pairs

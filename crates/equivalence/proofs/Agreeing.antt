@@ -2,10 +2,12 @@
 -- recipes apart. The picture of a single pixel 1 is enough to tell them apart.
 -- Assumes nothing.
 use mathlib.Core.Path.{◌≡◌, refl, sym, ap, ap₂, ◌∙◌}
-use mathlib.Core.Bool.{Bool, true, false, cond, ◌&&◌, true≢false}
+use mathlib.Core.Bool.{Bool, true, ◌&&◌}
 use Prim.Native.Nat.{ℕ, zero, suc, ◌+◌, ◌≤◌, ◌<◌}
 use native.Mathlib.Omega.{arith}
 use lib.ListN.{get_or}
+use Rattle.std.specs.Prelude.{Result, Ok, Err}
+use Rattle.spec.specs.declared.refusal.Refusal.{Refusal}
 use Rattle.spec.specs.declared.Filter.{Filter}
 use Rattle.spec.specs.Recipe.{Recipe, recipe, order, gain}
 use Rattle.spec.specs.Picture.{largest_gray, Within, Sides, full_sides, full_width_of, full_height_of, exact, full_row}
@@ -16,8 +18,6 @@ use Rattle.laws.proofs.Lists.{get_d_tab}
 use Rattle.laws.proofs.Refusals.{first_rest, first_then, recipe_numbered, picture_passed, picture_other, answer_accepted, is_accepted}
 use Rattle.laws.proofs.Counts.{same_balanced, balanced_same}
 use Rattle.laws.proofs.Sameness.{dot, counts_gain, counts_width, counts_height, counts_row, sums_counts}
-use Rattle.equivalence.specs.declared.Comparison.{Comparison}
-use Rattle.equivalence.specs.declared.Comparison.TheVariants as comparison
 use Rattle.equivalence.specs.Compared.{comparison_told}
 use Rattle.equivalence.specs.Yields.{AcceptedRecipe, AcceptedWith, Method}
 use Rattle.equivalence.specs.Agreement.{AgreeAlways, SameClaim, AcceptedAlike}
@@ -36,12 +36,9 @@ unfolding equivalent
 said_counts a b s = ap₂ ◌&&◌ (balanced_same a.rows b.rows s.rows) (balanced_same a.columns b.columns s.columns)
 
 -- the answer that is yes, and the one that is no
-pub told_so : (told : Comparison) (b : Bool) → comparison_told told ≡ accepted b → told ≡ cond b comparison.Same comparison.Different
-told_so comparison.Same true e = refl
-told_so comparison.Same false e = let z : true ≡ false = cc in absurd (true≢false z)
-told_so comparison.Different true e = let z : false ≡ true = cc in absurd (true≢false (sym z))
-told_so comparison.Different false e = refl
-told_so (comparison.Refused n) b e = let z : ◌≡◌ {A = ℕ} 0 1 = cc in absurd (omega arith)
+pub told_so : (told : Result Bool Refusal) (b : Bool) → comparison_told told ≡ accepted b → told ≡ Ok b
+told_so (Ok a) b e = let z : a ≡ b = cc in ap Ok z
+told_so (Err r) b e = let z : ◌≡◌ {A = ℕ} 0 1 = cc in absurd (omega arith)
 
 -- ---- the counts and the pictures
 

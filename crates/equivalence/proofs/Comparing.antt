@@ -16,17 +16,17 @@ module _ (a b : Recipe) where
   unfolding compare_checks
   by_first n e h = sym (first_front (recipe_checks a) (recipe_checks b) n (sym e) h)
 
-  pub by_second : (n : ℕ) → n ≡ first (recipe_checks a) → n ≡ 0 → first (recipe_checks b) ≡ first (compare_checks a b)
+  pub by_second : 0 ≡ first (recipe_checks a) → first (recipe_checks b) ≡ first (compare_checks a b)
   unfolding compare_checks
-  by_second n e z = sym (first_rest (recipe_checks a) (recipe_checks b) (recipe_numbered a) (sym e ∙ z))
+  by_second e = sym (first_rest (recipe_checks a) (recipe_checks b) (recipe_numbered a) (sym e))
 
   both_accepted : first (compare_checks a b) ≡ 0 → (first (recipe_checks a) ≡ 0) × (first (recipe_checks b) ≡ 0)
   unfolding compare_checks
   both_accepted e = none_both (recipe_checks a) (recipe_checks b) (recipe_numbered a) e
 
-module _ (a b : Filter) (n : ℕ) (e : n ≡ first (compare_checks (recipe a) (recipe b))) (z : n ≡ 0) where
+module _ (a b : Filter) (e : 0 ≡ first (compare_checks (recipe a) (recipe b))) where
   none : (first (recipe_checks (recipe a)) ≡ 0) × (first (recipe_checks (recipe b)) ≡ 0)
-  none = both_accepted (recipe a) (recipe b) (sym e ∙ z)
+  none = both_accepted (recipe a) (recipe b) (sym e)
 
   -- no list is longer than 48
   pub lists_short : ((a.rows.count ≤ 48) × (a.columns.count ≤ 48)) × ((b.rows.count ≤ 48) × (b.columns.count ≤ 48))
@@ -37,4 +37,4 @@ module _ (a b : Filter) (n : ℕ) (e : n ≡ first (compare_checks (recipe a) (r
       → accepted (q && r) ≡ answer (compare_checks (recipe a) (recipe b)) (equivalent (recipe a) (recipe b))
   unfolding recipe equivalent
   answered q r x y =
-      ap accepted (ap₂ ◌&&◌ x y) ∙ sym (answer_accepted (compare_checks (recipe a) (recipe b)) (equivalent (recipe a) (recipe b)) (sym e ∙ z))
+      ap accepted (ap₂ ◌&&◌ x y) ∙ sym (answer_accepted (compare_checks (recipe a) (recipe b)) (equivalent (recipe a) (recipe b)) (sym e))

@@ -1,5 +1,4 @@
--- Tallies of the widths of cascades: the loop that counts them, the loop that compares two tallies, and what the comparison says of the
--- lists.
+-- Tallies of the widths of cascades: the loop that counts them, two tallies compared, and what the comparison says of the lists.
 -- Assumes nothing.
 use mathlib.Core.Path.{◌≡◌, refl, sym, ap, ap₂, subst, ◌∙◌}
 use mathlib.Core.Bool.{Bool, true, false, cond, ◌&&◌, true≢false}
@@ -11,17 +10,15 @@ use native.Mathlib.Decide.{dec_lt}
 use native.Mathlib.Omega.{arith}
 use lib.Dec.{eqb}
 use lib.ListN.{length, get_or, drop, set, replicate, length-set, length-replicate, get_or-replicate, drop_of_length-le}
-use lib.Seq.{get_or-set_same, get_or-set_other}
+use lib.Seq.{get_or-set_same, get_or-set_other, drop-cons, ext_get_or}
 use borrow.Author.Tests.{eqb-true, eqb-false, lt-ltb, ltb-true}
-use Rattle.spec.specs.declared.Cascade.{Cascade}
+use Rattle.std.specs.Bool.{Decides as EqDecides}
 use Rattle.spec.specs.Words.{tab, everywhere, occurs}
-use Rattle.spec.specs.Recipe.{widths}
 use Rattle.spec.specs.Same.{struck, same_counts}
 use Rattle.equivalence.specs.Tally.{byte, tally_of, Alike, Decides}
 use Rattle.laws.proofs.Lists.{get_d_tab, total_most}
 use Rattle.laws.proofs.Kernels.{at, holds_tab}
 use Rattle.laws.proofs.Counts.{Balanced, occurs_none, occurs_here, occurs_other, struck_one, struck_other, everywhere_so, same_balanced, balanced_same}
-use Rattle.filter.proofs.Widths.{length_widths, widths_on}
 
 -- ---- the loop that counts the widths
 
@@ -35,56 +32,49 @@ occurs_most n ns = le_trans (total_most (λ x. cond (eqb x n) 1 0) 1 (λ x. once
     once false = omega arith
 
 -- After i widths: those from place i on are still to be counted, and to be seen to be bytes.
-pub record Tallied (c : Cascade) (count : ℕ) (counts : List ℕ) (i : ℕ) : Type 0 where
-  pub counted : count ≡ c.count
-  pub inside : i ≤ count
+pub record Tallied (ns counts : List ℕ) (i : ℕ) : Type 0 where
   pub size : length counts ≡ 256
-  pub is : (n : ℕ) → n < 256 → get_or counts n 0 + occurs n (drop i (widths c)) ≡ occurs n (widths c)
-  pub bytes : everywhere byte (drop i (widths c)) ≡ everywhere byte (widths c)
+  pub is : (n : ℕ) → n < 256 → get_or counts n 0 + occurs n (drop i ns) ≡ occurs n ns
+  pub bytes : everywhere byte (drop i ns) ≡ everywhere byte ns
 
-module _ (c : Cascade) (count : ℕ) where
-  pub tallied_none : count ≡ c.count → Tallied c count (replicate 256 0) 0
-  tallied_none e =
+module _ (ns : List ℕ) where
+  pub tallied_none : Tallied ns (replicate 256 0) 0
+  tallied_none =
       record {
-        counted = e;
-        inside = omega arith;
         size = length-replicate {A = ℕ} 256 0;
         is = λ n h. omega (arith, get_or-replicate {A = ℕ} 256 n 0 0 h);
         bytes = refl;
       }
 
-  module _ (counts : List ℕ) (i : ℕ) (t : Tallied c count counts i) where
-    pub tally_small : c.count ≤ 48 → (n : ℕ) → n < 256 → get_or counts n 0 ≤ 48
-    tally_small k n l = omega (arith, t.is n l, occurs_most n (widths c), length_widths c)
+  module _ (counts : List ℕ) (i : ℕ) (t : Tallied ns counts i) where
+    pub tally_small : length ns ≤ 48 → (n : ℕ) → n < 256 → get_or counts n 0 ≤ 48
+    tally_small k n l = omega (arith, t.is n l, occurs_most n ns)
 
-    pub tallied_more : i < count → (n : ℕ) → n ≡ get_or (widths c) i 0 → n < 256
-        → Tallied c count (set counts n (get_or counts n 0 + 1)) (i + 1)
+    pub tallied_more : i < length ns → (n : ℕ) → n ≡ get_or ns i 0 → n < 256 → Tallied ns (set counts n (get_or counts n 0 + 1)) (i + 1)
     unfolding everywhere
     tallied_more h n e l =
         record {
-          counted = t.counted;
-          inside = omega arith;
           size = length-set counts n (get_or counts n 0 + 1) ∙ t.size;
           is = λ m g. go m g (eqb n m) refl;
           bytes =
-              ap (λ b. b && everywhere byte (drop (i + 1) (widths c))) (sym (lt-ltb n 256 l))
+              ap (λ b. b && everywhere byte (drop (i + 1) ns)) (sym (lt-ltb n 256 l))
               ∙ ap (everywhere byte) (sym here)
               ∙ t.bytes;
         }
       where
         -- the width that is counted, and those after it
-        here : drop i (widths c) ≡ n ∷ drop (i + 1) (widths c)
-        here = widths_on c i (omega (arith, t.counted)) ∙ ap₂ (λ m j. m ∷ drop j (widths c)) (sym e) (sym (add-one i))
+        here : drop i ns ≡ n ∷ drop (i + 1) ns
+        here = drop-cons ns i 0 h ∙ ap₂ (λ m j. m ∷ drop j ns) (sym e) (sym (add-one i))
 
         go : (m : ℕ) → m < 256 → (b : Bool) → eqb n m ≡ b
-            → get_or (set counts n (get_or counts n 0 + 1)) m 0 + occurs m (drop (i + 1) (widths c)) ≡ occurs m (widths c)
+            → get_or (set counts n (get_or counts n 0 + 1)) m 0 + occurs m (drop (i + 1) ns) ≡ occurs m ns
         go m g true q =
             let same : n ≡ m = eqb-true n m q in
             omega (
               arith,
               t.is m g,
               ap (occurs m) here,
-              occurs_here m n (drop (i + 1) (widths c)) same,
+              occurs_here m n (drop (i + 1) ns) same,
               ap (λ j. get_or counts j 0) same,
               ap (λ j. get_or (set counts n (get_or counts n 0 + 1)) j 0) same,
               get_or-set_same counts n (get_or counts n 0 + 1) 0 (omega (arith, t.size)),
@@ -95,61 +85,43 @@ module _ (c : Cascade) (count : ℕ) where
               arith,
               t.is m g,
               ap (occurs m) here,
-              occurs_other m n (drop (i + 1) (widths c)) other,
+              occurs_other m n (drop (i + 1) ns) other,
               get_or-set_other counts n m (get_or counts n 0 + 1) 0 (λ d. other (sym d)),
             )
 
     -- all are counted, and those of 1 are struck out
-    pub tallied_all : count ≤ i → (set counts 1 0 ≡ tally_of (widths c)) × (everywhere byte (widths c) ≡ true)
+    pub tallied_all : length ns ≤ i → (set counts 1 0 ≡ tally_of ns) × (everywhere byte ns ≡ true)
     unfolding at tally_of everywhere
     tallied_all h = (
-      holds_tab (λ n. occurs n (struck (widths c))) (set counts 1 0) (λ n l. go n (omega (arith, length-set counts 1 0, t.size)) (eqb n 1) refl)
-          ∙ ap (λ m. tab m (λ n. occurs n (struck (widths c)))) (length-set counts 1 0 ∙ t.size),
+      holds_tab (λ n. occurs n (struck ns)) (set counts 1 0) (λ n l. go n (omega (arith, length-set counts 1 0, t.size)) (eqb n 1) refl)
+          ∙ ap (λ m. tab m (λ n. occurs n (struck ns))) (length-set counts 1 0 ∙ t.size),
       sym t.bytes ∙ ap (everywhere byte) over,
     )
       where
-        over : drop i (widths c) ≡ []
-        over = let past : length (widths c) ≤ i = omega (arith, length_widths c, t.counted) in drop_of_length-le (widths c) past
+        over : drop i ns ≡ []
+        over = drop_of_length-le ns h
 
-        go : (n : ℕ) → n < 256 → (b : Bool) → eqb n 1 ≡ b → get_or (set counts 1 0) n 0 ≡ occurs n (struck (widths c))
+        go : (n : ℕ) → n < 256 → (b : Bool) → eqb n 1 ≡ b → get_or (set counts 1 0) n 0 ≡ occurs n (struck ns)
         go n l true q =
             let one : n ≡ 1 = eqb-true n 1 q in
             ap (λ m. get_or (set counts 1 0) m 0) one
             ∙ get_or-set_same counts 1 0 0 (omega (arith, t.size))
-            ∙ sym (ap (λ m. occurs m (struck (widths c))) one ∙ struck_one (widths c))
+            ∙ sym (ap (λ m. occurs m (struck ns)) one ∙ struck_one ns)
         go n l false q =
             let other : n ≡ 1 → ⊥ = eqb-false n 1 q in
             get_or-set_other counts 1 n 0 0 other
             ∙ omega (arith, t.is n l, ap (occurs n) over, occurs_none n)
-            ∙ sym (struck_other n (widths c) other)
+            ∙ sym (struck_other n ns other)
 
--- ---- the loop that compares two tallies
+-- ---- two tallies
 
--- Before place n they agree, or they are known to differ.
-pub record AlikeBefore (a b : List ℕ) (same : Bool) (n : ℕ) : Type 0 where
-  pub so : same ≡ true → (k : ℕ) → k < n → get_or a k 0 ≡ get_or b k 0
-  pub not : same ≡ false → Alike a b → ⊥
-
-module _ (a b : List ℕ) where
-  pub compared_none : AlikeBefore a b true 0
-  compared_none = record { so = λ e k h. absurd (omega arith); not = λ e. absurd (true≢false e) }
-
-  module _ (same : Bool) (n : ℕ) (t : AlikeBefore a b same n) where
-    pub compared_same : get_or a n 0 ≡ get_or b n 0 → AlikeBefore a b same (n + 1)
-    compared_same d =
-        record {
-          so = λ e k h. elim (dec_lt k n) [
-            | yes l ↦ t.so e k l
-            | no l ↦ let is : k ≡ n = omega arith in ap (λ j. get_or a j 0) is ∙ d ∙ sym (ap (λ j. get_or b j 0) is)
-          ];
-          not = t.not;
-        }
-
-    pub compared_other : n < 256 → (get_or a n 0 ≡ get_or b n 0 → ⊥) → AlikeBefore a b false (n + 1)
-    compared_other h d = record { so = λ e. absurd (true≢false (sym e)); not = λ e q. d (q n h) }
-
-    pub compared_all : 256 ≤ n → Decides same (Alike a b)
-    compared_all h = record { so = λ e k l. t.so e k (omega arith); not = t.not }
+-- they are the same list exactly where they agree at every width
+pub same_alike : (a b : List ℕ) (same : Bool) → length a ≡ 256 → length b ≡ 256 → EqDecides same (a ≡ b) → Decides same (Alike a b)
+same_alike a b same l m d =
+    record {
+      so = λ e n h. ap (λ xs. get_or xs n 0) (d.0 e);
+      not = λ e alike. true≢false (sym (d.1 (ext_get_or 0 a b (l ∙ sym m) (λ n h. alike n (omega arith)))) ∙ e);
+    }
 
 -- ---- what the comparison says of the lists
 

@@ -1,11 +1,10 @@
 -- Demand 3's example: 2, 6, 6 retyped as 3, 3, 8. Reach, weight and count all agree, and yet the recipes are told apart.
-use Rattle.std.specs.Prelude.{◌≡◌, List, [], ◌∷◌, ℕ, length}
+use Rattle.std.specs.Prelude.{◌≡◌, Bool, false, List, [], ◌∷◌, ℕ, length, Result, Ok}
+use Rattle.spec.specs.declared.refusal.Refusal.{Refusal}
 use Rattle.spec.specs.declared.Filter.{Filter}
 use Rattle.spec.specs.Recipe.{recipe, held_filter, order, gain}
 use Rattle.spec.specs.Picture.{Picture, picture}
 use Rattle.spec.specs.Refusals.{alone}
-use Rattle.equivalence.specs.declared.Comparison.{Comparison}
-use Rattle.equivalence.specs.declared.Comparison.TheVariants as comparison
 use Rattle.equivalence.specs.Compared.{Compared}
 use Rattle.equivalence.specs.Yields.{AcceptedWith, Method, Yields}
 
@@ -39,7 +38,7 @@ pub record ToldApart : Type 0 where
   pub weights : (gain (recipe two_six_six) ≡ 72) × (gain (recipe three_three_eight) ≡ 72)
   pub counts : (length (recipe two_six_six).rows ≡ 3) × (length (recipe three_three_eight).rows ≡ 3)
   -- the comparing call says no
-  pub said : (told : Comparison) → Compared two_six_six three_three_eight told → told ≡ comparison.Different
+  pub said : (told : Result Bool Refusal) → Compared two_six_six three_three_eight told → told ≡ Ok false
   -- by every method the picture shows two rows that differ
   pub first_shown : (m : Method) → Yields m two_six_six dot 0 two_six_six_row
   pub second_shown : (m : Method) → Yields m three_three_eight dot 0 three_three_eight_row

@@ -14,16 +14,14 @@ ghost use Rattle.filter.specs.Coefficients.{KernelFilled};
 ghost use Rattle.blocks.specs.Given.{list_at, given};
 
 use blocks::{cascade_of, filter_of};
-use equivalence::Comparison;
-use filter::{Card, FullSize};
-use stream::Cells;
+use spec::outcome;
 
 // The checks of a recipe: 1 to 4.
 #[unsafe(no_mangle)]
 pub extern "C" fn bore_check(block: &[u8; 98]) -> u8
     ensures { result ≡ first (recipe_checks (recipe (given block.now))) }
 {
-    filter::check(filter_of(block))
+    outcome(filter::check(filter_of(block)))
 }
 
 // The coefficients of a list: 1 to 4, 7.
@@ -31,7 +29,7 @@ pub extern "C" fn bore_check(block: &[u8; 98]) -> u8
 pub extern "C" fn bore_kernel(list: &[u8; 49], out: &mut [u64]) -> u8
     ensures { KernelFilled (widths (list_at 0 list.now)) out.old result out.new }
 {
-    filter::kernel(cascade_of(list), out)
+    outcome(filter::kernel(cascade_of(list), out))
 }
 
 // The grown sides: 1 to 5.
@@ -48,17 +46,13 @@ pub extern "C" fn bore_full_size(
         × (full_width.new ≡ lent cs (full_width_of g width) full_width.old)
         × (full_height.new ≡ lent cs (full_height_of g height) full_height.old) }
 {
-    let answer = filter::full_size(filter_of(block), width, height);
-    match answer {
-        FullSize::Refused(number) => number,
-        FullSize::Sides {
-            width: w,
-            height: h,
-        } => {
-            *full_width = w;
-            *full_height = h;
+    match filter::full_size(filter_of(block), width, height) {
+        Ok(sides) => {
+            *full_width = sides.width;
+            *full_height = sides.height;
             0
         }
+        Err(refusal) => refusal.number(),
     }
 }
 
@@ -68,13 +62,12 @@ pub extern "C" fn bore_stream_cells(block: &[u8; 98], width: usize, cells: &mut 
     ensures { let g = recipe (given block.now) in let cs = cell_checks g width in
         (result ≡ first cs) × (cells.new ≡ lent cs (stream_cells g width) cells.old) }
 {
-    let answer = stream::stream_cells(filter_of(block), width);
-    match answer {
-        Cells::Refused(number) => number,
-        Cells::Needed(n) => {
-            *cells = n;
+    match stream::stream_cells(filter_of(block), width) {
+        Ok(needed) => {
+            *cells = needed;
             0
         }
+        Err(refusal) => refusal.number(),
     }
 }
 
@@ -96,10 +89,8 @@ pub extern "C" fn bore_moments(
         × (row_variance.new ≡ lent cs (variance g.rows) row_variance.old)
         × (column_variance.new ≡ lent cs (variance g.columns) column_variance.old) }
 {
-    let answer = filter::moments(filter_of(block));
-    match answer {
-        Card::Refused(number) => number,
-        Card::Of(scale) => {
+    match filter::moments(filter_of(block)) {
+        Ok(scale) => {
             *weight = scale.gain;
             *row_order = scale.row_order;
             *column_order = scale.column_order;
@@ -107,6 +98,7 @@ pub extern "C" fn bore_moments(
             *column_variance = scale.column_variance;
             0
         }
+        Err(refusal) => refusal.number(),
     }
 }
 
@@ -116,16 +108,11 @@ pub extern "C" fn bore_equivalent(a: &[u8; 98], b: &[u8; 98], same: &mut u8) -> 
     ensures { let f = recipe (given a.now) in let g = recipe (given b.now) in let cs = compare_checks f g in
         (result ≡ first cs) × (same.new ≡ lent cs (cond (equivalent f g) 1 0) same.old) }
 {
-    let answer = equivalence::equivalent(filter_of(a), filter_of(b));
-    match answer {
-        Comparison::Refused(number) => number,
-        Comparison::Same => {
-            *same = 1;
+    match equivalence::equivalent(filter_of(a), filter_of(b)) {
+        Ok(equal) => {
+            *same = u8::from(equal);
             0
         }
-        Comparison::Different => {
-            *same = 0;
-            0
-        }
+        Err(refusal) => refusal.number(),
     }
 }

@@ -7,6 +7,7 @@ ghost use Rattle.spec.specs.Ladder.{rows_only, both_axes};
 ghost use Rattle.passes.specs.Climbed.{Climbed};
 
 use passes::{Axes, ladder};
+use spec::{Image, outcome};
 
 // All exact sums of a picture by a level of the ladder along the rows: 16, then 1 to 8.
 #[unsafe(no_mangle)]
@@ -21,7 +22,12 @@ pub extern "C" fn bore_ladder_rows(
     ensures { Climbed rows_only level (picture width height pixels.now)
         out.old cells.old result out.new cells.new }
 {
-    ladder(level, Axes::Rows, width, height, pixels, out, cells)
+    let image = Image {
+        width,
+        height,
+        pixels,
+    };
+    outcome(ladder(level, Axes::Rows, image, out, cells))
 }
 
 // The same on both axes: 16, then 1 to 8, of which 4 for levels 6 to 8.
@@ -37,5 +43,10 @@ pub extern "C" fn bore_ladder_both(
     ensures { Climbed both_axes level (picture width height pixels.now)
         out.old cells.old result out.new cells.new }
 {
-    ladder(level, Axes::Both, width, height, pixels, out, cells)
+    let image = Image {
+        width,
+        height,
+        pixels,
+    };
+    outcome(ladder(level, Axes::Both, image, out, cells))
 }

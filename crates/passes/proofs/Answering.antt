@@ -1,24 +1,25 @@
 -- What the checks of the method answer, by the lengths of the slices, and those of the ladder, by the level first.
 -- Assumes nothing.
-use mathlib.Core.Path.{◌≡◌, refl, sym, ap, ◌∙◌}
+use mathlib.Core.Path.{◌≡◌, refl, sym, ap, ap₂, ◌∙◌}
 use mathlib.Core.Bool.{true, false, true≢false}
-use mathlib.Core.List.{List, [], ◌∷◌}
-use Prim.Native.Nat.{ℕ, ◌-◌, ◌*◌, ◌≤◌, ◌<◌}
-use native.Mathlib.Nat.{le_trans, le_of_eq, sub-zero}
+use mathlib.Core.List.{List, [], ◌∷◌, ◌++◌}
+use Prim.Native.Nat.{ℕ, ◌*◌, ◌≤◌, ◌<◌}
+use native.Mathlib.Nat.{le_trans, le_of_eq}
 use native.Mathlib.Omega.{arith}
 use lib.Dec.{eqb, ltb}
-use lib.ListN.{length, take}
-use lib.Seq.{length-take-le}
+use lib.ListN.{length, take, drop}
+use lib.Seq.{length-take-le, take_at}
 use borrow.Author.Tests.{eq-eqb, ltb-false}
+use Rattle.std.specs.Prelude.{Ok}
 use Rattle.spec.specs.Recipe.{Recipe}
-use Rattle.spec.specs.Picture.{Picture, Sides, full_sides}
+use Rattle.spec.specs.Picture.{Picture, full_sides}
 use Rattle.spec.specs.Ladder.{Axes, ladder}
 use Rattle.spec.specs.Refusals.{check, first, answer, other_pixels, other_output, too_few_cells, bad_level, full_size, size_checks, picture_checks, pass_checks, ladder_checks}
 use Rattle.laws.proofs.Numbers.{neither}
-use Rattle.laws.proofs.Refusals.{AcceptedPicture, is_accepted_picture, none_both, first_none, read_accepted, same_length_so, picture_numbered, picture_sides, picture_pixels, picture_rest, by_output, after_output, by_cells, after_cells}
-use Rattle.filter.specs.declared.sizes.FullSize.{FullSize}
-use Rattle.filter.specs.declared.sizes.FullSize.TheVariants as size
-use Rattle.filter.specs.Answers.{size_told}
+use Rattle.laws.proofs.Refusals.{AcceptedPicture, is_accepted_picture, none_both, first_none, same_length_so, picture_numbered, picture_sides, picture_pixels, picture_rest, by_output, after_output, by_cells, after_cells}
+use Rattle.laws.proofs.Results.{ok_told}
+use Rattle.filter.specs.declared.sizes.Sides.{Sides}
+use Rattle.filter.specs.Answers.{sides, size_told}
 
 module _ (r : Recipe) (p : Picture) (out cells : ℕ) where
   -- 1 to 5
@@ -69,24 +70,28 @@ module _ (r : Recipe) (p : Picture) (out cells : ℕ) where
       }
 
 -- where the grown sides came back, for an output and work cells of these lengths
-module _ (r : Recipe) (p : Picture) (out cells : List ℕ) (W H : ℕ) (came : FullSize) (is : came ≡ size.Sides W H)
-    (told : size_told came ≡ answer (pass_checks r p (length out) (length cells)) (full_sides r p.width p.height)) where
+module _ (r : Recipe) (p : Picture) (out cells : List ℕ) (came : Sides)
+    (told : size_told (Ok came) ≡ answer (pass_checks r p (length out) (length cells)) (full_sides r p.width p.height)) where
   -- none of 1 to 8 holds, and these are the grown sides
-  pub sides :
-      let grown : Sides = record { width = W; height = H } in
-      (first (pass_checks r p (length out) (length cells)) ≡ 0) × (grown ≡ full_sides r p.width p.height)
-  sides = read_accepted _ _ _ (ap size_told (sym is) ∙ told)
+  pub came_sides : (first (pass_checks r p (length out) (length cells)) ≡ 0) × (sides came ≡ full_sides r p.width p.height)
+  came_sides = ok_told sides _ _ came told
 
   -- what is known then
   pub asked : Asked r p (length out) (length cells)
-  asked = asked_none r p (length out) (length cells) sides.0
+  asked = asked_none r p (length out) (length cells) came_sides.0
 
   -- the part of the work cells that is lent is as long as the output
   pub cells_enough : length out ≤ length cells
   cells_enough = le_trans (le_of_eq asked.output) asked.work
 
-  pub part_long : length (take (length out - 0) cells) ≡ length out
-  part_long = length-take-le (length out - 0) cells (le_trans (le_of_eq (sub-zero (length out))) cells_enough) ∙ sub-zero (length out)
+  pub part_long : length (take (length out) cells) ≡ length out
+  part_long = length-take-le (length out) cells cells_enough
+
+  -- and it comes back in front of the others
+  pub lent_back : (work : List ℕ) → length work ≡ length out
+      → work ++ drop (length out) cells ≡ take (full_size r p) (work ++ drop (length out) cells) ++ drop (full_size r p) cells
+  lent_back work e =
+      ap₂ ◌++◌ (sym (take_at work (drop (length out) cells) (full_size r p) (e ∙ asked.output))) (ap (λ n. drop n cells) asked.output)
 
 -- the ladder: 16, and where the level is one of 1 to 8 the checks of the method
 pub by_level : (a : Axes) (level : ℕ) (p : Picture) (out cells : ℕ) → bad_level level ≡ true → first (ladder_checks a level p out cells) ≡ 16

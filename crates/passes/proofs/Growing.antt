@@ -1,65 +1,62 @@
 -- The rows of a picture put one by one into rows of W places, with black to their right, and black below them.
 -- Assumes nothing.
 use mathlib.Core.Path.{◌≡◌, sym, ap, ◌∙◌}
-use mathlib.Core.List.{List}
-use Prim.Native.Nat.{ℕ, ◌+◌, ◌-◌, ◌*◌, ◌/◌, ◌%◌, ◌≤◌, ◌<◌}
-use native.Mathlib.Nat.{zero-mul, suc-mul, le-div_iff_mul-le}
-use native.Mathlib.Numerals.{add-one}
+use mathlib.Core.List.{List, ◌++◌}
+use Prim.Native.Nat.{ℕ, ◌+◌, ◌*◌, ◌/◌, ◌≤◌, ◌<◌}
+use native.Mathlib.Nat.{mul_comm, mul-le-mul_right, le-div_iff_mul-le}
+use native.Mathlib.Decide.{dec_lt}
 use native.Mathlib.Omega.{arith}
-use Rattle.spec.specs.Picture.{Picture, pixel}
+use lib.ListN.{length, drop, length-append, length-drop, get_or-append, get_or-eq_default}
+use lib.Seq.{get_or-drop, drop_at, drop-drop}
+use Rattle.spec.specs.Picture.{Picture}
 use Rattle.laws.proofs.Kernels.{at}
+use Rattle.laws.proofs.Numbers.{row_fits}
 use Rattle.laws.proofs.Flat.{flat, flat_at}
-use Rattle.passes.specs.Steps.{Below, Rewritten}
 use Rattle.laws.proofs.Exact.{pixel_right, pixel_below, pixel_inside}
-use Rattle.passes.proofs.Writing.{below_rewritten}
 
--- after j rows: where the next row is taken from and put to
-pub record Grown (p : Picture) (W j from to : ℕ) (l : List ℕ) : Type 0 where
-  pub source : from ≡ j * p.width
-  pub target : to ≡ j * W
-  pub rows : Below to (flat p W) l
+module _ (p : Picture) (size : length p.pixels ≡ p.width * p.height) (j : ℕ) where
+  -- where less than a row is left all rows are through
+  pub rows_end : length (drop (j * p.width) p.pixels) < p.width → p.height ≤ j
+  rows_end h =
+      elim (dec_lt j p.height) [
+        | yes g ↦ absurd (omega (arith, length-drop (j * p.width) p.pixels, row_fits p.width j p.height g, mul_comm p.width p.height))
+        | no g ↦ omega arith
+      ]
 
--- one row more
-next : (j w : ℕ) → (j + 1) * w ≡ j * w + w
-next j w = ap (λ x. x * w) (add-one j) ∙ suc-mul j w
+  -- the row j comes off the front of what is left
+  module _ (line rest : List ℕ) (is : drop (j * p.width) p.pixels ≡ line ++ rest) (long : length line ≡ p.width) (wide : 0 < p.width) where
+    pub row_there : j < p.height
+    row_there =
+        elim (dec_lt j p.height) [
+          | yes g ↦ g
+          | no g ↦
+              let past : p.height * p.width ≤ j * p.width = mul-le-mul_right p.width (omega arith) in
+              absurd (omega (arith, ap length is, length-append line rest, length-drop (j * p.width) p.pixels, mul_comm p.width p.height))
+        ]
 
-module _ (p : Picture) (W : ℕ) where
-  pub grown_none : (l : List ℕ) → Grown p W 0 0 0 l
-  grown_none l =
-      record { source = sym (zero-mul p.width); target = sym (zero-mul W); rows = λ k g. absurd (omega arith) }
+    -- the rest of the pixels, and the row in the grown picture: its pixels, and black to their right
+    pub rows_rest : rest ≡ drop (j * p.width + p.width) p.pixels
+    rows_rest = sym (drop_at line rest p.width long) ∙ ap (drop p.width) (sym is) ∙ drop-drop p.width (j * p.width) p.pixels
 
-  -- the pixels of a row are put, and then the black places to their right
-  pub grown_more : (j from to : ℕ) (old put new : List ℕ) → Grown p W j from to old → j < p.height → p.width ≤ W
-      → Rewritten to (to + p.width) (λ k. at p.pixels (from + (k - to))) old put
-      → Rewritten (to + p.width) (to + W) (λ k. 0) put new
-      → Grown p W (j + 1) (from + p.width) (to + W) new
-  grown_more j from to old put new g h w r b =
-      record {
-        source = omega (arith, g.source, next j p.width);
-        target = omega (arith, g.target, next j W);
-        rows =
-            below_rewritten (flat p W) _ (to + p.width) (to + W) put new
-            (below_rewritten (flat p W) _ to (to + p.width) old put g.rows r
-            (λ k a l.
-            ap (λ x. at p.pixels (x + (k - to))) g.source
-            ∙ sym (pixel_inside p (k - to) j (omega arith) h)
-            ∙ sym (flat-is k a (omega arith))))
-            b
-            (λ k a l. sym (pixel_right p (k - to) j (omega arith)) ∙ sym (flat-is k (omega arith) l));
-      }
-    where
-      -- the place is in row j
-      flat-is : (k : ℕ) → to ≤ k → k < to + W → flat p W k ≡ pixel p (k - to) j
-      flat-is k a b =
-          let e : k ≡ j * W + (k - to) = omega (arith, g.target) in
-          ap (flat p W) e ∙ flat_at W (k - to) (omega arith) p j
+    pub flat_row : (W k : ℕ) → k < W → at line k ≡ flat p W (j * W + k)
+    unfolding at
+    flat_row W k l =
+        elim (dec_lt k p.width) [
+          | yes g ↦
+              sym (get_or-append line rest 0 k (omega arith))
+              ∙ ap (λ xs. at xs k) (sym is)
+              ∙ get_or-drop (j * p.width) p.pixels k 0
+              ∙ sym (pixel_inside p k j g row_there)
+              ∙ sym (flat_at W k l p j)
+          | no g ↦
+              get_or-eq_default line 0 (omega arith)
+              ∙ sym (pixel_right p k j (omega arith))
+              ∙ sym (flat_at W k l p j)
+        ]
 
-  -- all rows are in place, and then the black places below them up to n
-  pub grown_all : (j from to n : ℕ) (old new : List ℕ) → Grown p W j from to old → 0 < W → p.height ≤ j
-      → Rewritten to n (λ k. 0) old new → Below n (flat p W) new
-  unfolding flat
-  grown_all j from to n old new g w h b =
-      below_rewritten (flat p W) _ to n old new g.rows b
-      (λ k a l.
-      let past : j ≤ k / W = (le-div_iff_mul-le w).1 (omega (arith, g.target)) in
-      sym (pixel_below p (k % W) (k / W) (omega arith)))
+-- there is black below the last row
+pub flat_black : (p : Picture) (W j : ℕ) → p.height ≤ j → 0 < W → (k : ℕ) → j * W ≤ k → 0 ≡ flat p W k
+unfolding flat
+flat_black p W j h w k l =
+    let past : j ≤ k / W = (le-div_iff_mul-le w).1 l in
+    sym (pixel_below p _ (k / W) (omega arith))

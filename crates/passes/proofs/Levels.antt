@@ -1,7 +1,6 @@
 -- The ladder width by width, on a sequence in rows of W places: after each width what is held are the sums of the widths so far.
 -- Assumes nothing.
 use mathlib.Core.Path.{◌≡◌, sym, ap, subst, ◌∙◌}
-use mathlib.Core.Bool.{Bool}
 use mathlib.Core.List.{List}
 use Prim.Native.Nat.{ℕ, zero, suc, ◌+◌, ◌-◌, ◌≤◌, ◌<◌}
 use native.Mathlib.Nat.{le_trans, le_of_eq, zero-add, suc-add}
@@ -15,8 +14,10 @@ use Rattle.laws.proofs.Refusals.{Accepted}
 use Rattle.laws.proofs.Flat.{filtered}
 use Rattle.laws.proofs.Joining.{filtered_agree, filtered_joined}
 use Rattle.laws.proofs.Ladder.{rung_at, rungs_before, next_rung, step_accepted, fewer_accepted}
-use Rattle.passes.specs.Steps.{Below, Small, turned_all}
-use Rattle.passes.proofs.Buffers.{turned_joined}
+use Rattle.passes.specs.declared.buffers.Buffer.{Buffer}
+use Rattle.passes.specs.Steps.{Below, Small}
+use Rattle.passes.specs.Turned.{turned_all}
+use Rattle.passes.proofs.Turning.{turned_joined}
 
 -- a recipe makes no value smaller
 filtered_grows : (r : Recipe) (W : ℕ) (f : ℕ → ℕ) (k : ℕ) → 0 < gain r → f k ≤ filtered r W f k
@@ -72,7 +73,7 @@ module _ (a : Axes) (W : ℕ) (f : ℕ → ℕ) where
       rung_small now sums k h = le_trans (le_of_eq (onward size i (omega arith) now sums k h)) (up_small (suc i) more k h)
 
 -- the buffer that is held
-pub rung_turned : (a : Axes) (i : ℕ) → i < 10 → (begin held : Bool) → held ≡ turned_all (rungs_before a i) begin
-    → turned_all (rung_at a i) held ≡ turned_all (rungs_before a (suc i)) begin
-rung_turned a i h begin held e =
+pub rung_turned : (a : Axes) (i : ℕ) → i < 10 → (begin now : Buffer) → now ≡ turned_all (rungs_before a i) begin
+    → turned_all (rung_at a i) now ≡ turned_all (rungs_before a (suc i)) begin
+rung_turned a i h begin now e =
     ap (turned_all (rung_at a i)) e ∙ turned_joined (rungs_before a i) (rung_at a i) begin ∙ ap (λ r. turned_all r begin) (sym (next_rung a i h))

@@ -1,7 +1,7 @@
 pub mod Writing
 pub mod Growing
 pub mod Running
-pub mod Buffers
+pub mod Turning
 pub mod Whole
 pub mod Levels
 pub mod Answering

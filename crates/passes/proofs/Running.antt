@@ -2,8 +2,8 @@
 -- Assumes nothing.
 use mathlib.Core.Path.{◌≡◌, sym, ap, ◌∙◌}
 use mathlib.Core.List.{List}
-use Prim.Native.Nat.{ℕ, ◌+◌, ◌-◌, ◌*◌, ◌/◌, ◌^◌, ◌≤◌, ◌<◌}
-use native.Mathlib.Nat.{le_trans, le_of_eq, mul_comm, mul-one, mul-le-mul_right, le-mul_of_pos_right, mod-lt, div-add-mod'}
+use Prim.Native.Nat.{ℕ, ◌+◌, ◌-◌, ◌*◌, ◌^◌, ◌≤◌, ◌<◌}
+use native.Mathlib.Nat.{le_trans, le_of_eq, mul_comm, mul-one, mul-le-mul_right, le-mul_of_pos_right}
 use native.Mathlib.Decide.{dec_le, dec_lt}
 use native.Mathlib.Omega.{arith}
 use lib.ListN.{length}
@@ -77,15 +77,6 @@ row_before s n j h =
           let g : n * s ≤ j * s = mul-le-mul_right s (omega arith) in
           absurd (omega arith)
     ]
-
--- the row j of s places is whole where so many are, and past those there is less than a row
-pub row_whole : (s j size : ℕ) → j < size / s → j * s + s ≤ size
-row_whole s j size h = omega (arith, row_fits s j (size / s) h, div-add-mod' size s)
-
-pub row_cut : (s j size : ℕ) → 0 < s → size / s ≤ j → size ≤ j * s + s
-row_cut s j size p h =
-    let m : size / s * s ≤ j * s = mul-le-mul_right s h in
-    omega (arith, m, div-add-mod' size s, mod-lt size p)
 
 -- what is needed is still there after the target is written
 pub still_ready : (s n : ℕ) (src old new : List ℕ) → Ready s n src old → length new ≡ length old → Ready s n src new

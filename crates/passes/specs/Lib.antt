@@ -1,3 +1,4 @@
 pub mod Passed
 pub mod Climbed
 pub mod Steps
+pub mod Turned

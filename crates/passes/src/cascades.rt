@@ -1,22 +1,56 @@
-// The widths of a list in turn, and of a filter's two lists, from one buffer to the other and back.
-ghost use Rattle.std.specs.Prelude.{◌≡◌, true, ◌*◌, ◌^◌, ◌≤◌, ◌<◌, length};
-ghost use Rattle.spec.specs.Recipe.{widths, weight, recipe};
+// What goes over the two buffers: the picture, the widths of a list in turn, and those of a filter's two
+// lists.
+ghost use Rattle.std.specs.Prelude.{◌≡◌, ◌*◌, ◌^◌, ◌≤◌, ◌<◌, length};
+ghost use Rattle.spec.specs.Recipe.{weight, recipe};
+ghost use Rattle.spec.specs.Picture.{largest_gray, Within, pictured};
 ghost use Rattle.laws.proofs.Kernels.{at, Holds};
 ghost use Rattle.laws.proofs.Cascades.{spread, cascaded};
 ghost use Rattle.laws.proofs.Refusals.{Accepted};
-ghost use Rattle.laws.proofs.Flat.{filtered};
-ghost use Rattle.passes.specs.Steps.{Below, Small, Ready, present, turned, turned_by, turned_all};
+ghost use Rattle.laws.proofs.Flat.{flat, filtered};
+ghost use Rattle.passes.specs.Steps.{Below, Small, Ready};
+ghost use Rattle.passes.specs.Turned.{other, turned, turned_by, turned_all, held, SameBuffers};
 
+use crate::buffers::{Buffer, Buffers};
 use crate::columns::column_pass;
+use crate::grown::grow;
 use crate::rows::row_pass;
-use filter::width_at;
-use spec::{Cascade, Filter};
+use spec::{Filter, Image};
 
-// A width as a number of places.
-fn places(n: u8) -> usize
-    ensures { (result ≡ n) × (result ≤ 255) }
+impl Buffer {
+    fn other(self) -> Buffer
+        ensures { result ≡ other self }
+    {
+        match self {
+            Buffer::Out => Buffer::Work,
+            Buffer::Work => Buffer::Out,
+        }
+    }
+
+    // The buffer on the other side of one width.
+    fn across(self, width: u8) -> Buffer
+        ensures { result ≡ turned width self }
+    {
+        if width != 1 { self.other() } else { self }
+    }
+}
+
+// Where the picture has to be before the widths of a list to be in a given buffer after them. Only the
+// number of widths above 1 decides, so forwards and backwards are the same.
+fn turns(boxes: &[u8], after: Buffer) -> Buffer
+    ensures { result ≡ turned_by boxes.now after }
 {
-    n as usize
+    boxes
+        .iter()
+        .fold(after, |holder, &width| holder.across(width))
+}
+
+// Where the picture has to begin for a filter's passes to end in `out`.
+pub(crate) fn begins_in(filter: Filter) -> Buffer
+    requires { Accepted (recipe filter) }
+    ensures { turned_all (recipe filter) result ≡ Buffer.Out }
+{
+    let before_columns = turns(filter.columns.boxes(), Buffer::Out);
+    turns(filter.rows.boxes(), before_columns)
 }
 
 // One width, with a spread of so many places: 1 along the rows, a row down the columns.
@@ -31,86 +65,69 @@ fn pass(step: usize, n: usize, src: &[u64], dst: &mut [u64])
     }
 }
 
-// One width, from the buffer that holds the picture into the other. A width of 1 is no pass. Returns
-// whether `out` then holds the picture.
-fn turn(step: usize, n: usize, in_out: bool, out: &mut [u64], work: &mut [u64]) -> bool
-    requires { Ready step n (present in_out out.old work.old) out.old × (length work.old ≡ length out.old) }
-    ensures { (result ≡ turned n in_out)
-        × Below (length out.old) (spread step n (at (present in_out out.old work.old))) (present result out.new work.new) }
-{
-    if n == 1 {
-        return in_out;
+impl<'a> Buffers<'a> {
+    // The grown picture in the buffer that is to hold it.
+    pub(crate) fn place(&mut self, image: Image, full_width: usize)
+        requires { (length image.pixels.now ≡ image.width * image.height) × (0 < image.width) × (image.width ≤ full_width)
+            × (image.height * full_width ≤ length self.old.out.now) }
+        ensures same { SameBuffers self.old self.new }
+        ensures holder { self.new.holder ≡ self.old.holder }
+        ensures places { Below (length self.old.out.now) (flat (pictured image.entry) full_width) (held self.new) }
+        ensures bytes { Within largest_gray (pictured image.entry) }
+    {
+        let Image {
+            width,
+            height,
+            pixels,
+        } = image;
+        match self.holder {
+            Buffer::Out => grow(width, height, full_width, pixels, self.out),
+            Buffer::Work => grow(width, height, full_width, pixels, self.work),
+        }
     }
-    if in_out {
-        pass(step, n, out, work);
-        return false;
+
+    // One width, from the buffer that holds the picture into the other. A width of 1 is no pass.
+    fn turn(&mut self, step: usize, n: usize)
+        requires { Ready step n (held self.old) self.old.out.now }
+        ensures same { SameBuffers self.old self.new }
+        ensures holder { self.new.holder ≡ turned n self.old.holder }
+        ensures sums { Below (length self.old.out.now) (spread step n (at (held self.old))) (held self.new) }
+    {
+        if n == 1 {
+            return;
+        }
+        let out = &mut *self.out;
+        let work = &mut *self.work;
+        let holder = self.holder;
+        match holder {
+            Buffer::Out => pass(step, n, out, work),
+            Buffer::Work => pass(step, n, work, out),
+        }
+        self.holder = holder.other();
     }
-    pass(step, n, work, out);
-    true
-}
 
-// The buffer on the other side of one width.
-fn other(n: u8, in_out: bool) -> bool
-    ensures { result ≡ turned n in_out }
-{
-    if n != 1 { !in_out } else { in_out }
-}
-
-// Where the picture has to be before the widths of a list to be in a given buffer after them: `out` is
-// true. Only the number of widths above 1 decides, so forwards and backwards are the same.
-fn turns(list: Cascade, in_out: bool) -> bool
-    requires { list.count ≤ 48 }
-    ensures { result ≡ turned_by (widths list) in_out }
-{
-    let mut held = in_out;
-    for i in 0..list.count as usize {
-        let width = width_at(list.count, &list.widths, i);
-        held = other(width, held);
+    // The widths of a list in turn.
+    fn cascade(&mut self, boxes: &[u8], step: usize)
+        requires { (0 < weight boxes.now) × (0 < step) × (255 * step ≤ 2 ^ 32)
+            × Small (length self.old.out.now) (cascaded step boxes.now (at (held self.old))) }
+        ensures same { SameBuffers self.old self.new }
+        ensures holder { self.new.holder ≡ turned_by boxes.now self.old.holder }
+        ensures sums { Below (length self.old.out.now) (cascaded step boxes.now (at (held self.old))) (held self.new) }
+    {
+        for &n in boxes {
+            self.turn(step, usize::from(n));
+        }
     }
-    held
-}
 
-// The widths of a list in turn. Returns whether `out` then holds the picture.
-fn cascade(list: Cascade, step: usize, in_out: bool, out: &mut [u64], work: &mut [u64]) -> bool
-    requires { (list.count ≤ 48) × (0 < weight (widths list)) × (length work.old ≡ length out.old) × (0 < step) × (255 * step ≤ 2 ^ 32)
-        × Small (length out.old) (cascaded step (widths list) (at (present in_out out.old work.old))) }
-    ensures { (result ≡ turned_by (widths list) in_out)
-        × Below (length out.old) (cascaded step (widths list) (at (present in_out out.old work.old))) (present result out.new work.new) }
-{
-    let count = list.count as usize;
-    let mut held = in_out;
-    let mut i: usize = 0;
-    while i < count {
-        let n = width_at(list.count, &list.widths, i);
-        held = turn(step, places(n), held, out, work);
-        i += 1;
+    // A filter's row widths and then its column widths, in rows of full_width places.
+    pub(crate) fn carry(&mut self, filter: Filter, full_width: usize)
+        requires { Accepted (recipe filter) × (0 < full_width) × (255 * full_width ≤ 2 ^ 32)
+            × Small (length self.old.out.now) (filtered (recipe filter) full_width (at (held self.old))) }
+        ensures same { SameBuffers self.old self.new }
+        ensures holder { self.new.holder ≡ turned_all (recipe filter) self.old.holder }
+        ensures sums { Below (length self.old.out.now) (filtered (recipe filter) full_width (at (held self.old))) (held self.new) }
+    {
+        self.cascade(filter.rows.boxes(), 1);
+        self.cascade(filter.columns.boxes(), full_width);
     }
-    held
-}
-
-// Whether the picture has to begin in `out` for a filter's passes to end there.
-pub(crate) fn begins_in_out(filter: Filter) -> bool
-    requires { Accepted (recipe filter) }
-    ensures { turned_all (recipe filter) result ≡ true }
-{
-    let before_columns = turns(filter.columns, true);
-    turns(filter.rows, before_columns)
-}
-
-// A filter's row widths and then its column widths, on what stands in the two buffers in rows of
-// full_width places. Returns whether `out` then holds the picture.
-pub(crate) fn carry(
-    filter: Filter,
-    full_width: usize,
-    in_out: bool,
-    out: &mut [u64],
-    work: &mut [u64],
-) -> bool
-    requires { Accepted (recipe filter) × (length work.old ≡ length out.old) × (0 < full_width) × (255 * full_width ≤ 2 ^ 32)
-        × Small (length out.old) (filtered (recipe filter) full_width (at (present in_out out.old work.old))) }
-    ensures { (result ≡ turned_all (recipe filter) in_out)
-        × Below (length out.old) (filtered (recipe filter) full_width (at (present in_out out.old work.old))) (present result out.new work.new) }
-{
-    let held = cascade(filter.rows, 1, in_out, out, work);
-    cascade(filter.columns, full_width, held, out, work)
 }

@@ -1,27 +1,26 @@
 // Document 02's fading ladder: blurs that widen level by level. The code climbs: level 1 is worked from
 // the picture, and each further level from the exact sums of the level below, by its one new width on
 // each axis.
-ghost use Rattle.std.specs.Prelude.{◌≡◌, ◌+◌, ◌*◌, ◌^◌, ◌≤◌, ◌<◌, length};
-ghost use Rattle.spec.specs.Words.{part};
+ghost use Rattle.std.specs.Prelude.{◌≡◌, ◌*◌, ◌^◌, ◌≤◌, ◌<◌, length};
 ghost use Rattle.spec.specs.Recipe.{widths, recipe};
-ghost use Rattle.spec.specs.Picture.{picture, full_width_of, full};
-ghost use Rattle.spec.specs.Ladder.{rungs as rungsOf, on_axes, ladder as ladderOf};
-ghost use Rattle.spec.specs.Refusals.{bad_level, full_size};
+ghost use Rattle.spec.specs.Picture.{pictured, full_width_of, full};
+ghost use Rattle.spec.specs.Ladder.{on_axes, ladder as ladderOf};
+ghost use Rattle.spec.specs.Refusals.{bad_level, outcome, full_size};
 ghost use Rattle.laws.proofs.Kernels.{at};
 ghost use Rattle.laws.proofs.Refusals.{Accepted, AcceptedPicture};
 ghost use Rattle.laws.proofs.Flat.{filtered};
 ghost use Rattle.laws.proofs.Ladder.{rung_at};
-ghost use Rattle.passes.specs.Steps.{Below, Small, present, turned_all};
+ghost use Rattle.passes.specs.Steps.{Below, Small};
+ghost use Rattle.passes.specs.Turned.{turned_all, held, SameBuffers};
 ghost use Rattle.passes.specs.Climbed.{axes_of, Climbed};
 
-use crate::cascades::{begins_in_out, carry};
+use crate::buffers::Buffers;
+use crate::cascades::begins_in;
 use crate::checked_size;
-use crate::grown::place;
-use filter::FullSize;
-use spec::{Cascade, Filter};
+use spec::{Cascade, Filter, Image, Refusal};
 
 // The axes that a ladder widens on.
-#[derive(Clone, Copy)]
+#[derive(Clone, Copy, Debug, PartialEq, Eq)]
 pub enum Axes {
     Rows,
     Both,
@@ -30,15 +29,14 @@ pub enum Axes {
 // The widths of the ladder: level 1 is the first three, and levels 2 to 8 add the others in turn.
 const RUNGS: [u8; 10] = [2, 3, 4, 6, 8, 12, 16, 24, 32, 48];
 
-// So many of them, from a given place on.
-fn rungs(from: usize, count: usize) -> Cascade
-    requires { from + count ≤ 10 }
-    ensures { widths result ≡ part from count rungsOf }
+// Some of them as a list.
+fn rungs(boxes: &[u8]) -> Cascade
+    requires { length boxes.now ≤ 10 }
+    ensures { widths result ≡ boxes.now }
 {
-    let mut widths = [0u8; 48];
-    for i in 0..count {
-        widths[i] = RUNGS[from + i];
-    }
+    let mut widths = [0; 48];
+    let count = boxes.len();
+    widths[..count].copy_from_slice(boxes);
     Cascade {
         count: count as u8,
         widths,
@@ -54,7 +52,7 @@ fn on_axes(axes: Axes, list: Cascade) -> Filter
             rows: list,
             columns: Cascade {
                 count: 0,
-                widths: [0u8; 48],
+                widths: [0; 48],
             },
         },
         Axes::Both => Filter {
@@ -69,7 +67,7 @@ fn level_filter(axes: Axes, level: usize) -> Filter
     requires { level ≤ 8 }
     ensures { recipe result ≡ ladderOf (axes_of axes) level }
 {
-    on_axes(axes, rungs(0, level + 2))
+    on_axes(axes, rungs(&RUNGS[..level + 2]))
 }
 
 // The width at a place, on these axes.
@@ -77,62 +75,55 @@ fn rung_at(axes: Axes, i: usize) -> Filter
     requires { i < 10 }
     ensures { recipe result ≡ rung_at (axes_of axes) i }
 {
-    on_axes(axes, rungs(i, 1))
+    on_axes(axes, rungs(&RUNGS[i..i + 1]))
 }
 
-// The levels up to the one that is named, on what stands in one of the buffers in rows of full_width
-// places: level 1 by its whole recipe, and each further level by its one new width from the sums of the
-// level below, which one of the buffers holds. Returns whether `out` holds the last.
-fn levels(
-    level: usize,
-    axes: Axes,
-    full_width: usize,
-    in_out: bool,
-    out: &mut [u64],
-    work: &mut [u64],
-) -> bool
+// The levels up to the one that is named, on what the buffers hold in rows of full_width places: level 1
+// by its whole recipe, and each further level by its one new width from the sums of the level below.
+fn levels(level: usize, axes: Axes, full_width: usize, buffers: &mut Buffers)
     requires { let r = ladderOf (axes_of axes) level in
-        (0 < level) × (level ≤ 8) × Accepted r × (length work.old ≡ length out.old) × (0 < full_width) × (255 * full_width ≤ 2 ^ 32)
-        × Small (length out.old) (filtered r full_width (at (present in_out out.old work.old))) }
-    ensures { let r = ladderOf (axes_of axes) level in
-        (result ≡ turned_all r in_out)
-        × Below (length out.old) (filtered r full_width (at (present in_out out.old work.old))) (present result out.new work.new) }
+        (0 < level) × (level ≤ 8) × Accepted r × (0 < full_width) × (255 * full_width ≤ 2 ^ 32)
+        × Small (length buffers.old.out.now) (filtered r full_width (at (held buffers.old))) }
+    ensures same { SameBuffers buffers.old buffers.new }
+    ensures holder { buffers.new.holder ≡ turned_all (ladderOf (axes_of axes) level) buffers.old.holder }
+    ensures sums { let r = ladderOf (axes_of axes) level in
+        Below (length buffers.old.out.now) (filtered r full_width (at (held buffers.old))) (held buffers.new) }
 {
-    let mut held = carry(level_filter(axes, 1), full_width, in_out, out, work);
+    buffers.carry(level_filter(axes, 1), full_width);
     for i in 3..level + 2 {
-        held = carry(rung_at(axes, i), full_width, held, out, work);
+        buffers.carry(rung_at(axes, i), full_width);
     }
-    held
 }
 
 // The climb to an accepted level over an accepted picture. It begins so that it ends in `out`.
 fn climb(
     level: usize,
     axes: Axes,
-    width: usize,
-    height: usize,
+    image: Image,
     full_width: usize,
-    pixels: &[u8],
     out: &mut [u64],
     work: &mut [u64],
 )
-    requires { let p = picture width height pixels.now in let r = ladderOf (axes_of axes) level in
+    requires { let p = pictured image in let r = ladderOf (axes_of axes) level in
         (0 < level) × (level ≤ 8) × AcceptedPicture r p
-        × (full_width ≡ full_width_of r width)
+        × (full_width ≡ full_width_of r image.width)
         × (length out.old ≡ full_size r p) × (length work.old ≡ length out.old) }
-    ensures { let p = picture width height pixels.now in
-        out.new ≡ full (ladderOf (axes_of axes) level) p }
+    ensures { out.new ≡ full (ladderOf (axes_of axes) level) (pictured image.entry) }
 {
-    let in_out = begins_in_out(level_filter(axes, level));
-    place(width, height, full_width, in_out, pixels, out, work);
-    levels(level, axes, full_width, in_out, out, work);
+    let mut buffers = Buffers {
+        out,
+        work,
+        holder: begins_in(level_filter(axes, level)),
+    };
+    buffers.place(image, full_width);
+    levels(level, axes, full_width, &mut buffers);
 }
 
 // A level outside 1 to 8.
 fn bad_level(level: usize) -> bool
     ensures { result ≡ bad_level level }
 {
-    if level == 0 { true } else { 8 < level }
+    level == 0 || 8 < level
 }
 
 // All exact sums of a picture by the recipe of a level: refused by 16, then by 1 to 8. The work cells are
@@ -140,39 +131,18 @@ fn bad_level(level: usize) -> bool
 pub fn ladder(
     level: usize,
     axes: Axes,
-    width: usize,
-    height: usize,
-    pixels: &[u8],
+    image: Image,
     out: &mut [u64],
     cells: &mut [u64],
-) -> u8
-    ensures { let p = picture width height pixels.now in
-        Climbed (axes_of axes) level p out.old cells.old result out.new cells.new }
+) -> Result<(), Refusal>
+    ensures { Climbed (axes_of axes) level (pictured image.entry) out.old cells.old (outcome result) out.new cells.new }
 {
     if bad_level(level) {
-        return 16;
+        return Err(Refusal::BadLevel);
     }
     let size = out.len();
     let filter = level_filter(axes, level);
-    let answer = checked_size(filter, width, height, pixels.len(), size, cells.len());
-    match answer {
-        FullSize::Refused(number) => number,
-        FullSize::Sides {
-            width: full_width,
-            ..
-        } => {
-            let z: usize = 0;
-            climb(
-                level,
-                axes,
-                width,
-                height,
-                full_width,
-                pixels,
-                out,
-                &mut cells[z..size],
-            );
-            0
-        }
-    }
+    let sides = checked_size(filter, image, size, cells.len())?;
+    climb(level, axes, image, sides.width, out, &mut cells[..size]);
+    Ok(())
 }

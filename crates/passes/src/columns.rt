@@ -3,43 +3,28 @@
 ghost use Rattle.std.specs.Prelude.{◌≡◌, ℕ, ◌+◌, ◌-◌, ◌*◌, ◌≤◌, ◌<◌, ◌^◌, length};
 ghost use Rattle.laws.proofs.Kernels.{at, Holds};
 ghost use Rattle.laws.proofs.Cascades.{spread};
-ghost use Rattle.passes.specs.Steps.{Below, Rewritten, Ready};
-
-use crate::rows::least;
-
-// The first row comes in, and there is none above it.
-fn top_row(width: usize, src: &[u64], dst: &mut [u64])
-    requires { (width ≤ length src.now) × (length dst.old ≡ length src.now) }
-    ensures { Rewritten 0 width (at src.now) dst.old dst.new }
-{
-    for i in 0..width {
-        dst[i] = src[i];
-    }
-}
+ghost use Rattle.passes.specs.Steps.{Below, Ready};
 
 // A row, or its first places, from which nothing is to be taken away yet.
-fn added_row(step: usize, here: usize, width: usize, src: &[u64], dst: &mut [u64])
-    requires { (step ≤ here) × (width ≤ step) × (here + width ≤ length src.now) × (length dst.old ≡ length src.now)
-        × ((k : ℕ) → here ≤ k → k < here + width → at dst.old (k - step) + at src.now k ≤ 2 ^ 61) }
-    ensures { Rewritten here (here + width) (λ k. at dst.old (k - step) + at src.now k) dst.old dst.new }
+fn added_row(above: &[u64], coming: &[u64], row: &mut [u64])
+    requires { (length row.old ≤ length above.now) × (length row.old ≤ length coming.now)
+        × ((k : ℕ) → k < length row.old → at above.now k + at coming.now k ≤ 2 ^ 61) }
+    ensures { Below (length row.old) (λ k. at above.now k + at coming.now k) row.new }
 {
-    let above = here - step;
-    for i in 0..width {
-        dst[here + i] = dst[above + i] + src[here + i];
+    for (i, sum) in row.iter_mut().enumerate() {
+        *sum = above[i] + coming[i];
     }
 }
 
-// Any other row; span is the distance to the row that goes out.
-fn slid_row(step: usize, here: usize, width: usize, span: usize, src: &[u64], dst: &mut [u64])
-    requires { (step ≤ here) × (width ≤ step) × (span ≤ here) × (here + width ≤ length src.now) × (length dst.old ≡ length src.now)
-        × ((k : ℕ) → here ≤ k → k < here + width → at dst.old (k - step) + at src.now k ≤ 2 ^ 61)
-        × ((k : ℕ) → here ≤ k → k < here + width → at src.now (k - span) ≤ at dst.old (k - step) + at src.now k) }
-    ensures { Rewritten here (here + width) (λ k. at dst.old (k - step) + at src.now k - at src.now (k - span)) dst.old dst.new }
+// Any other row.
+fn slid_row(above: &[u64], coming: &[u64], going: &[u64], row: &mut [u64])
+    requires { (length row.old ≤ length above.now) × (length row.old ≤ length coming.now) × (length row.old ≤ length going.now)
+        × ((k : ℕ) → k < length row.old → at above.now k + at coming.now k ≤ 2 ^ 61)
+        × ((k : ℕ) → k < length row.old → at going.now k ≤ at above.now k + at coming.now k) }
+    ensures { Below (length row.old) (λ k. at above.now k + at coming.now k - at going.now k) row.new }
 {
-    let above = here - step;
-    let gone = here - span;
-    for i in 0..width {
-        dst[here + i] = dst[above + i] + src[here + i] - src[gone + i];
+    for (i, sum) in row.iter_mut().enumerate() {
+        *sum = above[i] + coming[i] - going[i];
     }
 }
 
@@ -50,28 +35,29 @@ fn next_row(step: usize, n: usize, here: usize, width: usize, src: &[u64], dst: 
     ensures { Below (here + width) (spread step n (at src.now)) dst.new }
 {
     let span = n * step;
+    let coming = &src[here..];
+    let (done, rest) = dst.split_at_mut(here);
+    let above = &done[here - step..];
+    let row = &mut rest[..width];
     if here < span {
-        added_row(step, here, width, src, dst);
+        added_row(above, coming, row);
     } else {
-        slid_row(step, here, width, span, src, dst);
+        let going = &src[here - span..];
+        slid_row(above, coming, going, row);
     }
 }
 
-// One width down the columns, in rows of so many places: those that are whole, and what there is of
-// one more.
+// One width down the columns, in rows of so many places.
 pub(crate) fn column_pass(step: usize, n: usize, src: &[u64], dst: &mut [u64])
     requires { Ready step n src.now dst.old }
     ensures { Holds (spread step n (at src.now)) dst.new }
 {
     let size = src.len();
-    let rows = size / step;
-    top_row(least(step, size), src, dst);
-    let mut here = step;
-    for j in 1..rows {
-        next_row(step, n, here, step, src, dst);
-        here += step;
-    }
-    if here < size {
-        next_row(step, n, here, size - here, src, dst);
+    let first = step.min(size);
+    dst[..first].copy_from_slice(&src[..first]);
+    for j in 1..size.div_ceil(step) {
+        let here = j * step;
+        let width = step.min(size - here);
+        next_row(step, n, here, width, src, dst);
     }
 }

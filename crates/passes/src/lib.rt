@@ -4,116 +4,79 @@
 // apart.
 #![tactic(auto)]
 
-ghost use Rattle.std.specs.Prelude.{◌≡◌, List, ℕ, length};
+ghost use Rattle.std.specs.Prelude.{◌≡◌, length};
 ghost use Rattle.spec.specs.Recipe.{recipe};
-ghost use Rattle.spec.specs.Picture.{picture, full_width_of, full_sides, full};
-ghost use Rattle.spec.specs.Refusals.{answer, full_size, pass_checks};
+ghost use Rattle.spec.specs.Picture.{pictured, full_width_of, full_sides, full};
+ghost use Rattle.spec.specs.Refusals.{answer, outcome, full_size, pass_checks};
 ghost use Rattle.laws.proofs.Refusals.{AcceptedPicture};
 ghost use Rattle.filter.specs.Answers.{size_told};
 ghost use Rattle.passes.specs.Passed.{Passed};
 
+mod buffers;
 mod cascades;
 mod climbing;
 mod columns;
 mod grown;
 mod rows;
 
-use crate::cascades::{begins_in_out, carry};
-use crate::grown::place;
+use crate::buffers::Buffers;
+use crate::cascades::begins_in;
 pub use climbing::{Axes, ladder};
-use filter::FullSize;
-use spec::Filter;
+use filter::Sides;
+use spec::{Filter, Image, Refusal};
 
 // The passes of an accepted recipe over an accepted picture. They go from one buffer to the other and
 // back, and begin so that the last ends in `out`.
-fn run(
-    filter: Filter,
-    width: usize,
-    height: usize,
-    full_width: usize,
-    pixels: &[u8],
-    out: &mut [u64],
-    work: &mut [u64],
-)
-    requires { let p = picture width height pixels.now in
+fn run(filter: Filter, image: Image, full_width: usize, out: &mut [u64], work: &mut [u64])
+    requires { let p = pictured image in
         AcceptedPicture (recipe filter) p
-        × (full_width ≡ full_width_of (recipe filter) width)
+        × (full_width ≡ full_width_of (recipe filter) image.width)
         × (length out.old ≡ full_size (recipe filter) p) × (length work.old ≡ length out.old) }
-    ensures { let p = picture width height pixels.now in
-        out.new ≡ full (recipe filter) p }
+    ensures { out.new ≡ full (recipe filter) (pictured image.entry) }
 {
-    let in_out = begins_in_out(filter);
-    place(width, height, full_width, in_out, pixels, out, work);
-    carry(filter, full_width, in_out, out, work);
+    let mut buffers = Buffers {
+        out,
+        work,
+        holder: begins_in(filter),
+    };
+    buffers.place(image, full_width);
+    buffers.carry(filter, full_width);
 }
 
-// The grown sides of a picture, where its slices have these lengths: refused by 1 to 8.
+// The grown sides of a picture, for an output and work cells of these lengths: refused by 1 to 8.
 pub(crate) fn checked_size(
     filter: Filter,
-    width: usize,
-    height: usize,
-    pixels: usize,
+    image: Image,
     out: usize,
     cells: usize,
-) -> FullSize
-    ensures { (xs : List ℕ) → length xs ≡ pixels
-        → size_told result ≡ answer (pass_checks (recipe filter) (picture width height xs) out cells) (full_sides (recipe filter) width height) }
+) -> Result<Sides, Refusal>
+    ensures { let p = pictured image.entry in
+        size_told result ≡ answer (pass_checks (recipe filter) p out cells) (full_sides (recipe filter) p.width p.height) }
 {
-    let answer = filter::full_size(filter, width, height);
-    match answer {
-        FullSize::Refused(number) => FullSize::Refused(number),
-        FullSize::Sides {
-            width: full_width,
-            height: full_height,
-        } => {
-            let size = full_width * full_height;
-            if pixels != width * height {
-                FullSize::Refused(6)
-            } else if out != size {
-                FullSize::Refused(7)
-            } else if cells < size {
-                FullSize::Refused(8)
-            } else {
-                FullSize::Sides {
-                    width: full_width,
-                    height: full_height,
-                }
-            }
-        }
+    let sides = filter::full_size(filter, image.width, image.height)?;
+    let size = sides.width * sides.height;
+    if image.pixels.len() != image.width * image.height {
+        Err(Refusal::OtherPixels)
+    } else if out != size {
+        Err(Refusal::OtherOutput)
+    } else if cells < size {
+        Err(Refusal::TooFewCells)
+    } else {
+        Ok(sides)
     }
 }
 
 // All exact sums of a picture, pass by pass: refused by 1 to 8. The work cells are free afterwards.
 pub fn passes(
     filter: Filter,
-    width: usize,
-    height: usize,
-    pixels: &[u8],
+    image: Image,
     out: &mut [u64],
     cells: &mut [u64],
-) -> u8
-    ensures { let p = picture width height pixels.now in
-        Passed (recipe filter) p out.old cells.old result out.new cells.new }
+) -> Result<(), Refusal>
+    ensures { Passed (recipe filter) (pictured image.entry) out.old cells.old (outcome result) out.new cells.new }
 {
     let size = out.len();
-    let answer = checked_size(filter, width, height, pixels.len(), size, cells.len());
-    match answer {
-        FullSize::Refused(number) => number,
-        FullSize::Sides {
-            width: full_width,
-            ..
-        } => {
-            let z: usize = 0;
-            run(
-                filter,
-                width,
-                height,
-                full_width,
-                pixels,
-                out,
-                &mut cells[z..size],
-            );
-            0
-        }
-    }
+    let sides = checked_size(filter, image, size, cells.len())?;
+    run(filter, image, sides.width, out, &mut cells[..size]);
+    Ok(())
 }

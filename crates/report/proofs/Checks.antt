@@ -8,27 +8,30 @@ use native.Mathlib.Omega.{arith}
 use lib.Dec.{ltb}
 use lib.ListN.{length, drop, replicate, length-append, length-replicate, length-drop}
 use borrow.Author.Tests.{lt-ltb, le-ltb, ltb-false}
+use Rattle.std.specs.Prelude.{Ok, Err}
 use Rattle.spec.specs.declared.Filter.{Filter}
+use Rattle.spec.specs.declared.refusal.Refusal.{Refusal}
+use Rattle.spec.specs.declared.refusal.Refusal.TheVariants.{BadFile}
 use Rattle.spec.specs.Recipe.{recipe, held_filter}
 use Rattle.spec.specs.Picture.{full_width_of, full_height_of}
 use Rattle.spec.specs.Stream.{stream_cells}
 use Rattle.spec.specs.Job.{job_recipe, job_width, job_height, job_offset, job_length}
-use Rattle.spec.specs.Refusals.{Check, check, first, either, lent, too_long, too_few_cells, bad_head, cut_short, other_total, other_pixels, over_program, size_checks, start_checks, job_checks, program_checks}
+use Rattle.spec.specs.Refusals.{Check, check, first, either, lent, answer, told, number, recipe_checks, too_long, too_few_cells, bad_head, cut_short, other_total, other_pixels, over_program, size_checks, start_checks, job_checks, program_checks}
 use Rattle.laws.proofs.Numbers.{neither}
 use Rattle.laws.proofs.Refusals.{Numbered, Sized, lent_refused, lent_accepted, first_front, first_then, first_none, none_both, numbered_more, size_numbered, recipe_numbered, is_sized, same_length_so}
+use Rattle.laws.proofs.Results.{number_not_zero, err_told, ok_told}
 use Rattle.filter.specs.declared.checks.Measures.{Measures}
 use Rattle.filter.specs.Measured.{measured}
-use Rattle.filter.proofs.Measuring.{Known, known, number_is}
-use Rattle.stream.specs.declared.calls.Started.{Started}
+use Rattle.filter.proofs.Measuring.{Known, known, measured_err}
+use Rattle.stream.specs.declared.calls.State.{State}
 use Rattle.stream.specs.Calls.{Began, began, zeros, started, start}
 use Rattle.job.specs.declared.reading.Job.{Job}
-use Rattle.job.specs.Answers.{no_job, job_told, job_read}
+use Rattle.job.specs.Answers.{job_told, job_read}
 use Rattle.job.proofs.Holding.{held_recipe}
-use Rattle.report.specs.declared.opening.Opened.{Opened}
 use Rattle.report.specs.Opening.{Opening, opening, not_opened, job_started, job_opened}
 
 -- the number of a start is that of its checks, and on a refusal the cells are what they were
-start_number : (f : Filter) (w h : ℕ) (cells : List ℕ) → (start f w h cells).number ≡ first (start_checks (recipe f) w h (length cells))
+pub start_number : (f : Filter) (w h : ℕ) (cells : List ℕ) → (start f w h cells).number ≡ first (start_checks (recipe f) w h (length cells))
 unfolding start lent started either
 start_number f w h cells = go (first (start_checks (recipe f) w h (length cells)))
   where
@@ -50,14 +53,6 @@ module _ (bytes : List ℕ) where
   job_numbered =
       let sizes = size_numbered (job_recipe bytes) (job_width bytes) (job_height bytes) in
       (omega arith, (omega arith, (omega arith, numbered_more (size_checks (job_recipe bytes) (job_width bytes) (job_height bytes)) (other_total bytes) 13 sizes)))
-
-  read_number : (job_read bytes).refusal ≡ first (job_checks bytes)
-  unfolding job_read lent job_told either
-  read_number = go (first (job_checks bytes))
-    where
-      go : (k : ℕ) → (either k (job_told bytes) (no_job k)).refusal ≡ k
-      go zero = refl
-      go (suc k) = refl
 
   -- what is known of a job that is accepted
   pub record Fine : Type 0 where
@@ -87,8 +82,8 @@ module _ (bytes : List ℕ) where
   after : List Check
   after = job_checks bytes ++ check (too_few_cells 8192 (stream_cells (job_recipe bytes) (job_width bytes))) 8 ∷ []
 
-  pub by_size : 65536 < length bytes → first (program_checks bytes) ≡ 14
-  unfolding first check program_checks over_program after
+  pub by_size : 65536 < length bytes → first (program_checks bytes) ≡ number BadFile
+  unfolding first check program_checks over_program after number
   by_size h = ap (λ b. cond b 14 (first after)) (lt-ltb 65536 (length bytes) h)
 
   module _ (small : length bytes ≤ 65536) where
@@ -127,101 +122,112 @@ module _ (bytes : List ℕ) where
   -- ---- opening
 
   module _ (cells : List ℕ) where
-    pub not_opened_lem : (n : ℕ) → first (program_checks bytes) ≡ n → (n ≡ 0 → ⊥) → opening (not_opened n) cells ≡ job_opened bytes cells
+    pub refused_lem : (e : Refusal) → first (program_checks bytes) ≡ number e → opening (not_opened (number e)) cells ≡ job_opened bytes cells
     unfolding opening job_opened
-    not_opened_lem n e h =
-        ap (λ k. opening (not_opened k) cells) (sym e) ∙ sym (lent_refused (program_checks bytes) (job_started bytes cells) _ n e h)
+    refused_lem e q =
+        ap (λ k. opening (not_opened k) cells) (sym q) ∙ sym (lent_refused (program_checks bytes) (job_started bytes cells) _ (number e) q (number_not_zero e))
 
-    pub by_reading : length bytes ≤ 65536 → (j : Job) → j ≡ job_read bytes → (j.refusal ≡ 0 → ⊥) → opening (not_opened j.refusal) cells ≡ job_opened bytes cells
-    by_reading small j e h =
-        not_opened_lem j.refusal (by_job small j.refusal (sym (ap (λ (x : Job). x.refusal) e ∙ read_number)) h) h
+    pub by_reading : length bytes ≤ 65536 → (e : Refusal) → told (λ (j : Job). j) (Err e) ≡ job_read bytes
+        → opening (not_opened (number e)) cells ≡ job_opened bytes cells
+    unfolding job_read
+    by_reading small e t =
+        refused_lem e (by_job small (number e) (err_told (λ (j : Job). j) (job_checks bytes) (job_told bytes) e t) (number_not_zero e))
 
     -- a job that is read and not refused
-    module _ (small : length bytes ≤ 65536) (n : length cells ≡ 8192) (j : Job) (e : j ≡ job_read bytes) (z : j.refusal ≡ 0) where
-      none : first (job_checks bytes) ≡ 0
-      none = sym (ap (λ (x : Job). x.refusal) e ∙ read_number) ∙ z
-
-      read-so : j ≡ job_told bytes
+    module _ (small : length bytes ≤ 65536) (n : length cells ≡ 8192) (j : Job) (t : told (λ (x : Job). x) (Ok j) ≡ job_read bytes) where
+      read_so : (first (job_checks bytes) ≡ 0) × (j ≡ job_told bytes)
       unfolding job_read
-      read-so = e ∙ lent_accepted (job_checks bytes) (job_told bytes) _ none
+      read_so = ok_told (λ (x : Job). x) (job_checks bytes) (job_told bytes) j t
 
-      pub fine : Fine
-      fine = is_fine none
+      fine : Fine
+      fine = is_fine read_so.0
 
-      same-filter : j.filter ≡ held_filter (job_recipe bytes)
+      same_filter : j.filter ≡ held_filter (job_recipe bytes)
       unfolding job_told
-      same-filter = ap (λ (x : Job). x.filter) read-so
+      same_filter = ap (λ (x : Job). x.filter) read_so.1
 
       same_width : j.width ≡ job_width bytes
       unfolding job_told
-      same_width = ap (λ (x : Job). x.width) read-so
+      same_width = ap (λ (x : Job). x.width) read_so.1
 
-      same-height : j.height ≡ job_height bytes
+      same_height : j.height ≡ job_height bytes
       unfolding job_told
-      same-height = ap (λ (x : Job). x.height) read-so
+      same_height = ap (λ (x : Job). x.height) read_so.1
 
-      same-offset : j.offset ≡ job_offset bytes
+      same_offset : j.offset ≡ job_offset bytes
       unfolding job_told
-      same-offset = ap (λ (x : Job). x.offset) read-so
+      same_offset = ap (λ (x : Job). x.offset) read_so.1
 
-      pub sides : Sized j.width j.height
+      sides : Sized j.width j.height
       unfolding job_told
       sides =
-          subst (λ (x : Job). Sized x.width x.height) (sym read-so) (is_sized (job_recipe bytes) (job_width bytes) (job_height bytes) fine.sizes).1
+          subst (λ (x : Job). Sized x.width x.height) (sym read_so.1) (is_sized (job_recipe bytes) (job_width bytes) (job_height bytes) fine.sizes).1
 
-      measured-so : (m : Measures) → m ≡ measured (recipe j.filter) → Known (job_recipe bytes) m
+      same_recipe : recipe j.filter ≡ job_recipe bytes
+      same_recipe = ap recipe same_filter ∙ fine.lists
+
+      measured_so : (m : Measures) → told (λ (x : Measures). x) (Ok m) ≡ answer (recipe_checks (recipe j.filter)) (measured (recipe j.filter))
+          → Known (job_recipe bytes) m
+      measured_so m s = subst (λ r. Known r m) same_recipe (known (recipe j.filter) m s)
+
+      -- its recipe is measured as accepted
+      pub measured_always : (e : Refusal) → told (λ (x : Measures). x) (Err e) ≡ answer (recipe_checks (recipe j.filter)) (measured (recipe j.filter)) → ⊥
       unfolding size_checks
-      measured-so m s =
-          let r = job_recipe bytes in
-          let is : m ≡ measured r = s ∙ ap (λ f. measured (recipe f)) same-filter ∙ ap measured fine.lists in
-          known r m is (number_is r m is ∙ (none_both _ _ (recipe_numbered r) fine.sizes).0)
+      measured_always e s =
+          number_not_zero e
+          (sym (measured_err (recipe j.filter) e s) ∙ ap (λ r. first (recipe_checks r)) same_recipe ∙ (none_both _ _ (recipe_numbered (job_recipe bytes)) fine.sizes).0)
 
       -- the grown sides are small
-      pub grown_few : (m : Measures) → m ≡ measured (recipe j.filter) → (j.width + m.row_order ≤ 1279) × (j.height + m.column_order ≤ 1279)
+      pub grown_few : (m : Measures) → told (λ (x : Measures). x) (Ok m) ≡ answer (recipe_checks (recipe j.filter)) (measured (recipe j.filter))
+          → (j.width + m.row_order ≤ 1279) × (j.height + m.column_order ≤ 1279)
       grown_few m s =
-          let k = measured-so m s in
+          let k = measured_so m s in
           (omega (arith, k.row_reach, k.accepted.row_reach, sides.width), omega (arith, k.column_reach, k.accepted.column_reach, sides.height))
 
-      module _ (b : Started) (held : List ℕ) (begun : began b held ≡ start j.filter j.width j.height cells) where
-        begun-so : began b held ≡ start (held_filter (job_recipe bytes)) (job_width bytes) (job_height bytes) cells
+      module _ (held : List ℕ) where
+        begun_so : (b : Began) → b ≡ start j.filter j.width j.height cells → b ≡ start (held_filter (job_recipe bytes)) (job_width bytes) (job_height bytes) cells
         unfolding job_told
-        begun-so = begun ∙ ap (λ (x : Job). start x.filter x.width x.height cells) read-so
+        begun_so b e = e ∙ ap (λ (x : Job). start x.filter x.width x.height cells) read_so.1
 
-        begun-number : first (program_checks bytes) ≡ b.refusal
-        unfolding began
-        begun-number =
-            sym (starts small none cells n)
+        begun_number : (b : Began) → b ≡ start j.filter j.width j.height cells → first (program_checks bytes) ≡ b.number
+        begun_number b e =
+            sym (starts small read_so.0 cells n)
             ∙ sym (start_number (held_filter (job_recipe bytes)) (job_width bytes) (job_height bytes) cells)
-            ∙ sym (ap (λ (x : Began). x.number) begun-so)
+            ∙ sym (ap (λ (x : Began). x.number) (begun_so b e))
 
-        pub by_start : (b.refusal ≡ 0 → ⊥) → (o : Opened) → o ≡ not_opened b.refusal → opening o held ≡ job_opened bytes cells
+        pub by_start : (e : Refusal) → began (Err e) held ≡ start j.filter j.width j.height cells
+            → opening (not_opened (number e)) held ≡ job_opened bytes cells
         unfolding began
-        by_start h o q =
+        by_start e q =
+            let b = begun_so (began (Err e) held) q in
             let same : held ≡ cells =
-            ap (λ (x : Began). x.cells) begun-so
-            ∙ start_refused (held_filter (job_recipe bytes)) (job_width bytes) (job_height bytes) cells (λ z. h (ap (λ (x : Began). x.number) begun-so ∙ z)) in
-            ap₂ opening q same ∙ not_opened_lem b.refusal begun-number h
+            ap (λ (x : Began). x.cells) b
+            ∙ start_refused (held_filter (job_recipe bytes)) (job_width bytes) (job_height bytes) cells
+            (λ z. number_not_zero e (ap (λ (x : Began). x.number) b ∙ z)) in
+            ap (opening (not_opened (number e))) same ∙ refused_lem e (begun_number (began (Err e) held) q)
 
-        pub all_opened : b.refusal ≡ 0 → (m : Measures) → m ≡ measured (recipe j.filter)
-            → opening (record { refusal = 0; state = b.state; offset = j.offset; width = j.width + m.row_order; height = j.height + m.column_order; gain = m.gain; is_begun = false }) held
+        pub all_opened : (s : State) → began (Ok s) held ≡ start j.filter j.width j.height cells
+            → (m : Measures) → told (λ (x : Measures). x) (Ok m) ≡ answer (recipe_checks (recipe j.filter)) (measured (recipe j.filter))
+            → opening (record { refusal = 0; state = s; offset = j.offset; width = j.width + m.row_order; height = j.height + m.column_order; gain = m.gain; is_begun = false }) held
             ≡ job_opened bytes cells
         unfolding opening job_opened job_started began full_width_of full_height_of
-        all_opened q m s =
-            let k = measured-so m s in
+        all_opened s q m t =
+            let k = measured_so m t in
+            let b = begun_so (began (Ok s) held) q in
             (λ i. record {
               opened =
                   record {
                     refusal = 0;
-                    state = ap (λ (x : Began). x.state) begun-so i;
-                    offset = same-offset i;
+                    state = ap (λ (x : Began). x.state) b i;
+                    offset = same_offset i;
                     width = same_width i + k.row_reach i;
-                    height = same-height i + k.column_reach i;
+                    height = same_height i + k.column_reach i;
                     gain = k.weight i;
                     is_begun = false;
                   };
-              cells = ap (λ (x : Began). x.cells) begun-so i;
+              cells = ap (λ (x : Began). x.cells) b i;
             })
-            ∙ sym (lent_accepted (program_checks bytes) (job_started bytes cells) _ (begun-number ∙ q))
+            ∙ sym (lent_accepted (program_checks bytes) (job_started bytes cells) _ (begun_number (began (Ok s) held) q))
 
 -- the cells are as many as before
 started_length : (f : Filter) (w h : ℕ) (cells : List ℕ) → first (start_checks (recipe f) w h (length cells)) ≡ 0 → length (start f w h cells).cells ≡ length cells

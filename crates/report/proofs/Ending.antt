@@ -3,14 +3,13 @@
 use mathlib.Core.Path.{◌≡◌, refl, sym, ap, ap₂, ◌∙◌}
 use mathlib.Core.Bool.{true, cond}
 use mathlib.Core.List.{List, [], ◌++◌}
-use Prim.Native.Nat.{ℕ, zero, suc, ◌+◌, ◌≤◌}
+use Prim.Native.Nat.{ℕ, zero, suc, ◌≤◌}
 use native.Mathlib.Omega.{arith}
 use lib.ListN.{length, take, drop, length-append, length-drop}
 use Rattle.spec.specs.Refusals.{either}
 use Rattle.report.specs.declared.opening.Opened.{Opened}
-use Rattle.report.specs.declared.filling.Filled.{Filled}
 use Rattle.report.specs.Opening.{first_line, front}
-use Rattle.report.specs.Filling.{Lines, next_lines, heading, job_lines, Filling, filled, begun, fill}
+use Rattle.report.specs.Filling.{Lines, next_lines, heading, job_lines, Filling, begun, fill}
 use Rattle.report.specs.Session.{fillings, until_refused}
 use Rattle.report.proofs.Rows.{joined, no_lines}
 
@@ -47,15 +46,6 @@ module _ (o : Opened) (job cells text : List ℕ) where
   fill_kept h =
       let t = (job_lines o job cells).made in
       omega (arith, length-append t (drop (length t) text), length-drop (length t) text)
-
-  -- one call more
-  pub filled_more : (n m : ℕ) → n ≡ suc m → (r : Filled) (held new : List ℕ) → filled r held new ≡ fill o job cells text
-      → length (until_refused n o job cells text) ≡ length (take r.count new) + length (either r.refusal (until_refused m r.opened job held new) [])
-  unfolding until_refused filled
-  filled_more n m one r held new e =
-      ap (λ k. length (until_refused k o job cells text)) one
-      ∙ ap (λ (a : Filling). length (take a.count a.text ++ either a.number (until_refused m a.opened job a.cells a.text) [])) (sym e)
-      ∙ length-append (take r.count new) (either r.refusal (until_refused m r.opened job held new) [])
 
   pub nothing_more : (n m : ℕ) → fill o job cells text ≡ record { number = m; count = 0; opened = o; cells = cells; text = text } → fillings n o job cells text ≡ []
   unfolding fillings

@@ -3,15 +3,17 @@
 use mathlib.Core.Path.{◌≡◌, refl, sym, ap, ap₂, ◌∙◌}
 use mathlib.Core.List.{List, [], ◌∷◌, ◌++◌, append-nil, append_assoc}
 use Prim.Native.Nat.{ℕ, zero, suc, ◌+◌, ◌-◌, ◌*◌, ◌≤◌}
-use native.Mathlib.Nat.{sub-zero}
 use native.Mathlib.Omega.{arith}
-use lib.ListN.{length, take, drop, replicate, take-append-drop, length-append, length-replicate, replicate-append-replicate}
-use lib.Seq.{take-length, drop-length, take-append_seam, drop-append_seam, take_at, drop-append-le, length-take-le, drop-drop}
+use lib.ListN.{length, take, drop, take-append-drop, length-append}
+use lib.Seq.{take-length, drop-length, take-append_seam, drop-append_seam, drop-append-le, length-take-le, drop-drop}
+use Rattle.std.specs.Prelude.{Result, Ok, Err, IsOk}
 use Rattle.spec.specs.Program.{line, refusal_printed}
-use Rattle.spec.specs.Refusals.{Answer, accepted, refused, first, either}
-use Rattle.laws.proofs.Refusals.{read_refused, read_accepted, lent_accepted, after_output}
+use Rattle.spec.specs.declared.refusal.Refusal.{Refusal}
+use Rattle.spec.specs.Refusals.{first, either}
+use Rattle.laws.proofs.Refusals.{lent_accepted, after_output}
+use Rattle.laws.proofs.Results.{number_not_zero, err_told, ok_told}
 use Rattle.text.proofs.Lines.{length_line, length_refusal}
-use Rattle.text.specs.Printed.{Printed, line_checks}
+use Rattle.text.specs.Printed.{Printed, line_checks, line_told}
 use Rattle.report.specs.declared.opening.Opened.{Opened}
 use Rattle.report.specs.Opening.{first_line, front}
 
@@ -26,24 +28,23 @@ unfolding front
 front_within t old text n size is = omega (arith, size, ap length is, length-append t (drop (length t) old))
 
 -- a front of a text was lent, and a line written at its front
-pub front_part : (t text : List ℕ) (room : ℕ) → length t ≤ room → room ≤ length text
-    → front t (take (room - 0) text) ++ drop (room - 0) text ≡ front t text
+pub front_part : (t text : List ℕ) (room : ℕ) → length t ≤ room → room ≤ length text → front t (take room text) ++ drop room text ≡ front t text
 unfolding front
 front_part t text room h g =
-    let size : length (take (room - 0) text) ≡ room = ap (λ n. length (take n text)) (sub-zero room) ∙ length-take-le room text g in
-    append_assoc t (drop (length t) (take (room - 0) text)) (drop (room - 0) text)
+    append_assoc t (drop (length t) (take room text)) (drop room text)
     ∙ ap (λ l. t ++ l)
-    (sym (drop-append-le (length t) (take (room - 0) text) (drop (room - 0) text) (omega arith)) ∙ ap (λ l. drop (length t) l) (take-append-drop (room - 0) text))
+    (sym (drop-append-le (length t) (take room text) (drop room text) (omega (arith, length-take-le room text g)))
+    ∙ ap (λ l. drop (length t) l) (take-append-drop room text))
 
 -- the rest of a text was lent, and a line written there behind what stood at the front
-pub front_more : (done t old text : List ℕ) (at to : ℕ) → text ≡ front done old → at ≡ length done → to ≡ length text
-    → take at text ++ (front t (take (to - at) (drop at text)) ++ drop (to - at) (drop at text)) ≡ front (done ++ t) old
+pub front_more : (done t old text : List ℕ) (at : ℕ) → text ≡ front done old → at ≡ length done
+    → take at text ++ (front t (take (length text - at) (drop at text)) ++ drop (length text - at) (drop at text)) ≡ front (done ++ t) old
 unfolding front
-front_more done t old text at to is p q =
+front_more done t old text at is p =
     let rest = drop (length done) old in
     let begins : take at text ≡ done = ap₂ take p is ∙ take-append_seam done rest in
     let ends : drop at text ≡ rest = ap₂ drop p is ∙ drop-append_seam done rest in
-    let all : to - at ≡ length rest = omega (arith, p, q, ap length is, length-append done rest) in
+    let all : length text - at ≡ length rest = omega (arith, p, ap length is, length-append done rest) in
     ap₂ ◌++◌ begins
     (ap₂ (λ l n. front t (take n l) ++ drop n l) ends all
     ∙ ap₂ (λ a b. front t a ++ b) (take-length rest) (drop-length rest)
@@ -52,27 +53,33 @@ front_more done t old text at to is p q =
     ∙ sym (append_assoc done t (drop (length (done ++ t)) old))
 
 -- a line at the front of one text is copied to the front of another
-pub copied_front : (t old text : List ℕ) (n : ℕ) → n ≡ length t → n ≤ length text → (from : List ℕ) → from ≡ front t old → (part : List ℕ)
-    → part ≡ take (n - 0) from → part ++ drop (n - 0) text ≡ front t text
+pub copied_front : (t old text : List ℕ) (n : ℕ) → n ≡ length t → (from : List ℕ) → from ≡ front t old → (part : List ℕ)
+    → part ≡ take n from → part ++ drop n text ≡ front t text
 unfolding front
-copied_front t old text n size inside from is part copied =
-    let all : n - 0 ≡ length t = omega arith in
-    let given : take (n - 0) from ≡ t = ap₂ take all is ∙ take-append_seam t (drop (length t) old) in
-    ap₂ ◌++◌ (copied ∙ given) (ap (λ k. drop k text) all)
+copied_front t old text n size from is part copied =
+    let given : take n from ≡ t = ap₂ take size is ∙ take-append_seam t (drop (length t) old) in
+    ap₂ ◌++◌ (copied ∙ given) (ap (λ k. drop k text) size)
 
 -- a line that is printed into a slice of just its room
-module _ (ns old new : List ℕ) (told : Answer ℕ) (p : Printed ns old told new) (room : length old ≡ 21 * length ns + 1) where
+module _ (ns old new : List ℕ) (r : Result ℕ Refusal) (p : Printed ns old (line_told r) new) (room : length old ≡ 21 * length ns + 1) where
   none : first (line_checks ns (length old)) ≡ 0
   unfolding line_checks first
   none = after_output [] (length old) (21 * length ns + 1) room
 
-  pub line_told_lem : (n : ℕ) → accepted n ≡ told → (n ≡ length (line ns)) × (new ≡ front (line ns) old)
-  unfolding front
-  line_told_lem n e =
-      ((read_accepted _ _ n (e ∙ p.answer)).1, p.slice ∙ lent_accepted (line_checks ns (length old)) _ old none)
+  pub line_printed : IsOk r
+  line_printed = go r refl
+    where
+      go : (s : Result ℕ Refusal) → r ≡ s → IsOk s
+      go (Ok n) e = refl
+      go (Err e) q =
+          absurd (number_not_zero e (sym (err_told (λ (n : ℕ). n) (line_checks ns (length old)) (length (line ns)) e (sym (ap line_told q) ∙ p.answer)) ∙ none))
 
-  pub line_never : (n : ℕ) → refused n ≡ told → ⊥
-  line_never n e = let q = read_refused _ _ n (e ∙ p.answer) in q.1 (sym q.0 ∙ none)
+  pub line_is : (n : ℕ) → r ≡ Ok n → (n ≡ length (line ns)) × (new ≡ front (line ns) old)
+  unfolding front
+  line_is n e = (
+    (ok_told (λ (m : ℕ). m) (line_checks ns (length old)) (length (line ns)) n (sym (ap line_told e) ∙ p.answer)).1,
+    p.slice ∙ lent_accepted (line_checks ns (length old)) _ old none,
+  )
 
 -- the second of two, by a number that is not 0
 pub either_second : {A : Type 0} (n : ℕ) (a b : A) → (n ≡ 0 → ⊥) → either n a b ≡ b
@@ -97,12 +104,3 @@ first_short o = go o.refusal
     go : (n : ℕ) → length (either n (line (o.width ∷ o.height ∷ o.gain ∷ [])) (refusal_printed o.refusal)) ≤ 64
     go zero = length_line (o.width ∷ o.height ∷ o.gain ∷ [])
     go (suc n) = omega (arith, length_refusal o.refusal)
-
--- a front of a list of zeros
-pub take_zeros : (n most : ℕ) → n ≤ most → take (n - 0) (replicate {A = ℕ} most 0) ≡ replicate n 0
-take_zeros n most h =
-    let all : n + (most - n) ≡ most = omega arith in
-    ap (λ k. take k (replicate {A = ℕ} most 0)) (sub-zero n)
-    ∙ ap (λ (k : ℕ). take n (replicate {A = ℕ} k 0)) (sym all)
-    ∙ ap (λ (l : List ℕ). take n l) (sym (replicate-append-replicate n (most - n) 0))
-    ∙ take_at (replicate {A = ℕ} n 0) (replicate (most - n) 0) n (length-replicate n 0)

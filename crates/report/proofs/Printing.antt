@@ -21,18 +21,17 @@ use Rattle.spec.specs.Program.{line, sums_printed, refusal_printed, printed}
 use Rattle.laws.proofs.Lists.{length_tab, tab_agree}
 use Rattle.laws.proofs.Refusals.{lent_refused, lent_accepted, is_sized, grown_most}
 use Rattle.stream.specs.declared.calls.State.{State}
-use Rattle.stream.specs.declared.calls.Stepped.{Stepped}
-use Rattle.stream.specs.Calls.{state_of, zeros, Called, called, began, start}
+use Rattle.stream.specs.Calls.{state_of, zeros, Called, began, start}
 use Rattle.job.proofs.Answering.{job_length_lem}
 use Rattle.rows.specs.Streaming.{Streamed}
-use Rattle.rows.specs.Advance.{picture_due, advance, Skipped, skipped}
+use Rattle.rows.specs.Advance.{picture_due, advance}
 use Rattle.rows.proofs.Driving.{begun as has_begun}
-use Rattle.rows.proofs.Advancing.{advance_refused, left, advance_stopped, next_row}
+use Rattle.rows.proofs.Advancing.{advance_refused, next}
 use Rattle.report.specs.declared.opening.Opened.{Opened}
 use Rattle.report.specs.Opening.{Opening, not_opened, job_started, job_opened, first_line}
 use Rattle.report.specs.Filling.{Lines, row_lines, grown_width, rows_at_once, next_lines, heading, job_lines, begun, fill}
 use Rattle.report.specs.Session.{fillings, until_refused, TextClaim}
-use Rattle.report.proofs.Checks.{is_fine, program_job, program_small, starts}
+use Rattle.report.proofs.Checks.{start_number, is_fine, program_job, program_small, starts}
 use Rattle.report.proofs.Fronts.{take_front}
 use Rattle.report.proofs.Rows.{joined, no_lines, lines_more, lines_stopped, bad_next}
 use Rattle.report.proofs.Ending.{from_lines, fill_quiet, nothing_more, until_more}
@@ -87,22 +86,10 @@ module _ (f : Filter) (w h : ℕ) (pixels : List ℕ) (size : length pixels ≡ 
     stepped = advance s pixels row cells
 
     came : k < high → Streamed f p (k + 1) stepped.state stepped.cells × (stepped.out ≡ full_row (recipe f) p k)
-    unfolding called
-    came due =
-        let r : Stepped = record { refusal = stepped.number; state = stepped.state; count = stepped.count } in
-        next_row f w h pixels size small k s cells st row due wide r stepped.out stepped.cells refl
+    came due = let all = next f w h pixels size small k s cells st row due wide stepped refl in (all.1, all.2)
 
-    -- the state has moved on, so the call was not refused
     accepted : k < high → stepped.number ≡ 0
-    unfolding left skipped
-    accepted due = go stepped.number refl
-      where
-        go : (n : ℕ) → stepped.number ≡ n → stepped.number ≡ 0
-        go zero e = e
-        go (suc n) e =
-            let same = ap (λ (x : Skipped). x.state) (advance_stopped s pixels row cells (λ z. omega arith)) in
-            let moved : k ≡ k + 1 = ap (λ (x : State). x.emitted) (sym st.is ∙ sym same ∙ (came due).0.is) in
-            absurd (omega arith)
+    accepted due = (next f w h pixels size small k s cells st row due wide stepped refl).0
 
     ended : high ≤ k → stepped.number ≡ 0 → ⊥
     ended past = out_refused s pixels row cells (subst (λ (x : State). full_height_of (recipe x.filter) x.height ≤ x.emitted) (sym st.is) past)
@@ -336,8 +323,10 @@ module _ (bytes cells text : List ℕ) where
     unfolding job_started f pixels began
     none_yet =
         let s = start f (job_width bytes) (job_height bytes) cells in
-        has_begun f (picture (job_width bytes) (job_height bytes) pixels) cells (record { refusal = s.number; state = s.state }) s.cells
-        (starts bytes (program_small bytes e) (program_job bytes e) cells many ∙ e) refl
+        let none = starts bytes (program_small bytes e) (program_job bytes e) cells many ∙ e in
+        let number = start_number f (job_width bytes) (job_height bytes) cells ∙ none in
+        has_begun f (picture (job_width bytes) (job_height bytes) pixels) cells s.state s.cells none
+        (λ i. record { number = sym number i; state = s.state; cells = s.cells })
 
     accepted-printed : (n : ℕ) → began-with.opened.height < n → finish n (job_opened bytes cells) ≡ printed bytes
     unfolding job_started printed sums_printed job_picture heading first_line either f pixels

@@ -5,18 +5,23 @@ use mathlib.Core.List.{List, [], ◌++◌, append-nil, append_assoc}
 use Prim.Native.Nat.{ℕ, zero, suc, ◌+◌, ◌-◌}
 use native.Mathlib.Omega.{arith}
 use lib.ListN.{length, take, drop, replicate, length-append}
+use Rattle.std.specs.Prelude.{Option, Some, None, Ok, Err}
+use Rattle.spec.specs.declared.refusal.Refusal.{Refusal}
+use Rattle.spec.specs.declared.refusal.Refusal.TheVariants.{BadState}
 use Rattle.spec.specs.Recipe.{recipe}
-use Rattle.spec.specs.Refusals.{first, either, bad_state, size_checks}
+use Rattle.spec.specs.Refusals.{first, either, number, bad_state, size_checks}
 use Rattle.spec.specs.Program.{line}
 use Rattle.stream.specs.declared.calls.State.{State}
 use Rattle.stream.specs.declared.calls.Stepped.{Stepped}
+use Rattle.stream.specs.declared.calls.Refused.{Refused}
 use Rattle.stream.specs.Calls.{state_of, Called, called}
+use Rattle.laws.proofs.Results.{number_not_zero}
 use Rattle.stream.proofs.States.{bad_refused, first_holds}
 use Rattle.rows.specs.Advance.{picture_due, advance, Skipped, skipped}
 use Rattle.rows.proofs.Advancing.{advance_refused, left, advance_stopped}
 use Rattle.report.specs.Opening.{front}
 use Rattle.report.specs.declared.filling.Reached.{Reached}
-use Rattle.report.specs.Filling.{Lines, row_lines, grown_width, rows_at_once, next_lines}
+use Rattle.report.specs.Filling.{Lines, row_lines, grown_width, rows_at_once, next_lines, ended}
 use Rattle.report.specs.Private.{Put}
 use Rattle.report.proofs.Fronts.{either_second, front_more}
 
@@ -72,18 +77,18 @@ pub put_same : {a b : Lines} {r : Reached} {held old new : List ℕ} → a ≡ b
 put_same {r = r} {held} {old} {new} e p = subst (λ (x : Lines). Put x r held old new) e p
 
 -- in the rest of a text, behind what stands at its front
-pub put_behind : (t old text : List ℕ) (at to : ℕ) → at ≡ length t → text ≡ front t old → to ≡ length text → (a : Lines) (r : Reached) (held part : List ℕ)
-    → Put a r held (take (to - at) (drop at text)) part
-    → Put (joined t a) (record { refusal = r.refusal; end = at + r.end; state = r.state }) held old (take at text ++ (part ++ drop (to - at) (drop at text)))
-put_behind t old text at to size is whole a r held part p =
+pub put_behind : (t old text : List ℕ) (at : ℕ) → at ≡ length t → text ≡ front t old → (a : Lines) (r : Reached) (held part : List ℕ)
+    → Put a r held (take (length text - at) (drop at text)) part
+    → Put (joined t a) (record { end = r.end; count = at + r.count; state = r.state }) held old (take at text ++ (part ++ drop (length text - at) (drop at text)))
+put_behind t old text at size is a r held part p =
     record {
       number = p.number;
       end = ap₂ ◌+◌ size p.end ∙ sym (length-append t a.made);
       state = p.state;
       cells = p.cells;
       text =
-          ap (λ l. take at text ++ (l ++ drop (to - at) (drop at text))) p.text
-          ∙ front_more t a.made old text at to is size whole;
+          ap (λ l. take at text ++ (l ++ drop (length text - at) (drop at text))) p.text
+          ∙ front_more t a.made old text at is size;
     }
 
 -- a state whose recipe or sides are refused: no lines, and 9
@@ -104,11 +109,11 @@ bad_next s pixels cells n e h =
     let row = replicate {A = ℕ} (grown_width s) 0 in
     ap (λ m. row_lines m s pixels row cells) one ∙ bad_lines s pixels row cells n e h (rows_at_once s - 1)
 
-pub bad_put : (s : State) (pixels cells text : List ℕ) (n : ℕ) → first (size_checks (recipe s.filter) s.width s.height) ≡ n → (n ≡ 0 → ⊥)
-    → Put (next_lines s pixels cells) (record { refusal = 9; end = 0; state = s }) cells text text
-unfolding front
-bad_put s pixels cells text n e h =
-    let none = sym (bad_next s pixels cells n e h) in
+pub bad_put : (s : State) (pixels cells text : List ℕ) (e : Refusal) → first (size_checks (recipe s.filter) s.width s.height) ≡ number e
+    → Put (next_lines s pixels cells) (record { end = Some BadState; count = 0; state = s }) cells text text
+unfolding front number
+bad_put s pixels cells text e q =
+    let none = sym (bad_next s pixels cells (number e) q (number_not_zero e)) in
     record {
       number = ap (λ (x : Lines). x.number) none;
       end = ap (λ (x : Lines). length x.made) none;
@@ -132,11 +137,11 @@ module _ (count : ℕ) (s₀ : State) (pixels row₀ cells₀ old : List ℕ) wh
   putting_none = record { done = []; end = refl; is = refl; all = refl }
 
   module _ (s : State) (row cells text : List ℕ) (at : ℕ) where
-    finished : (rest n : ℕ) → Putting rest s row cells text at → row_lines rest s pixels row cells ≡ no_lines n s cells
-        → Put (row_lines count s₀ pixels row₀ cells₀) (record { refusal = n; end = at; state = s }) cells old text
-    finished rest n p e =
-        let all : record { number = n; made = p.done; state = s; cells = cells } ≡ row_lines count s₀ pixels row₀ cells₀ =
-        ap (λ t. record { number = n; made = t; state = s; cells = cells }) (sym (append-nil p.done)) ∙ ap (joined p.done) (sym e) ∙ p.all in
+    finished : (rest : ℕ) (why : Option Refusal) → Putting rest s row cells text at → row_lines rest s pixels row cells ≡ no_lines (ended why) s cells
+        → Put (row_lines count s₀ pixels row₀ cells₀) (record { end = why; count = at; state = s }) cells old text
+    finished rest why p e =
+        let all : record { number = ended why; made = p.done; state = s; cells = cells } ≡ row_lines count s₀ pixels row₀ cells₀ =
+        ap (λ t. record { number = ended why; made = t; state = s; cells = cells }) (sym (append-nil p.done)) ∙ ap (joined p.done) (sym e) ∙ p.all in
         record {
           number = ap (λ (x : Lines). x.number) all;
           end = p.end ∙ ap (λ (x : Lines). length x.made) all;
@@ -146,43 +151,45 @@ module _ (count : ℕ) (s₀ : State) (pixels row₀ cells₀ old : List ℕ) wh
         }
 
     pub putting_ended : (rest : ℕ) → rest ≡ 0 → Putting rest s row cells text at
-        → Put (row_lines count s₀ pixels row₀ cells₀) (record { refusal = 0; end = at; state = s }) cells old text
+        → Put (row_lines count s₀ pixels row₀ cells₀) (record { end = None; count = at; state = s }) cells old text
     unfolding row_lines
-    putting_ended rest z p = finished rest 0 p (ap (λ n. row_lines n s pixels row cells) z)
+    putting_ended rest z p = finished rest None p (ap (λ n. row_lines n s pixels row cells) z)
 
-    -- after a call
-    module _ (r : Stepped) (new held : List ℕ) (e : called r new held ≡ advance s pixels row cells) where
-      pub putting_stopped : (rest m : ℕ) → rest ≡ suc m → Putting rest s row cells text at → (r.refusal ≡ 0 → ⊥)
-          → Put (row_lines count s₀ pixels row₀ cells₀) (record { refusal = r.refusal; end = at; state = s }) held old text
-      unfolding called left skipped
-      putting_stopped rest m one p h =
-          let number : r.refusal ≡ (advance s pixels row cells).number = ap (λ (x : Called). x.number) e in
-          let refused : ((advance s pixels row cells).number ≡ 0 → ⊥) = λ z. h (number ∙ z) in
-          let kept : held ≡ cells = ap (λ (x : Called). x.cells) e ∙ ap (λ (x : Skipped). x.cells) (advance_stopped s pixels row cells refused) in
-          let stopped = ap (λ k. row_lines k s pixels row cells) one ∙ lines_stopped s pixels row cells refused m in
-          let done = finished rest _ p stopped in
-          record { number = number ∙ done.number; end = done.end; state = done.state; cells = kept ∙ done.cells; text = done.text }
+    -- after a call that is refused
+    pub putting_stopped : (r : Refused) (new held : List ℕ) → called (Err r) new held ≡ advance s pixels row cells
+        → (rest m : ℕ) → rest ≡ suc m → Putting rest s row cells text at
+        → Put (row_lines count s₀ pixels row₀ cells₀) (record { end = Some r.refusal; count = at; state = s }) held old text
+    unfolding called left skipped
+    putting_stopped r new held e rest m one p =
+        let why : number r.refusal ≡ (advance s pixels row cells).number = ap (λ (x : Called). x.number) e in
+        let refused : ((advance s pixels row cells).number ≡ 0 → ⊥) = λ z. number_not_zero r.refusal (why ∙ z) in
+        let kept : held ≡ cells = ap (λ (x : Called). x.cells) e ∙ ap (λ (x : Skipped). x.cells) (advance_stopped s pixels row cells refused) in
+        let stopped = ap (λ k. row_lines k s pixels row cells) one ∙ lines_stopped s pixels row cells refused m in
+        let done = finished rest (Some r.refusal) p (stopped ∙ ap (λ k. no_lines k s cells) (sym why)) in
+        record { number = done.number; end = done.end; state = done.state; cells = kept ∙ done.cells; text = done.text }
 
-      pub putting_more : (rest m : ℕ) → rest ≡ suc m → Putting rest s row cells text at → r.refusal ≡ 0
-          → (n : ℕ) → n ≡ length (line new) → (to : ℕ) → to ≡ length text → (part : List ℕ) → part ≡ front (line new) (take (to - at) (drop at text))
-          → Putting m r.state new held (take at text ++ (part ++ drop (to - at) (drop at text))) (at + n)
-      unfolding called
-      putting_more rest m one p z n size to whole part put =
-          let done = p.done ++ line new in
-          let accepted : (advance s pixels row cells).number ≡ 0 = sym (ap (λ (x : Called). x.number) e) ∙ z in
-          let next : row_lines rest s pixels row cells ≡ joined (line new) (row_lines m r.state pixels new held) =
-          ap (λ k. row_lines k s pixels row cells) one
-          ∙ lines_more s pixels row cells m accepted
-          ∙ ap (λ (x : Called). joined (line x.out) (row_lines m x.state pixels x.out x.cells)) (sym e) in
-          record {
-            done = done;
-            end = ap₂ ◌+◌ p.end size ∙ sym (length-append p.done (line new));
-            is =
-                ap (λ l. take at text ++ (l ++ drop (to - at) (drop at text))) put
-                ∙ front_more p.done (line new) old text at to p.is p.end whole;
-            all =
-                ap (λ t. let rest = row_lines m r.state pixels new held in record { number = rest.number; made = t; state = rest.state; cells = rest.cells })
-                (append_assoc p.done (line new) (row_lines m r.state pixels new held).made)
-                ∙ ap (joined p.done) (sym next)
-                ∙ p.all;
-          }
+    -- and after one that is accepted
+    pub putting_more : (r : Stepped) (new held : List ℕ) → called (Ok r) new held ≡ advance s pixels row cells
+        → (rest m : ℕ) → rest ≡ suc m → Putting rest s row cells text at
+        → (n : ℕ) → n ≡ length (line new) → (part : List ℕ) → part ≡ front (line new) (take (length text - at) (drop at text))
+        → Putting m r.state new held (take at text ++ (part ++ drop (length text - at) (drop at text))) (at + n)
+    unfolding called
+    putting_more r new held e rest m one p n size part put =
+        let done = p.done ++ line new in
+        let accepted : (advance s pixels row cells).number ≡ 0 = sym (ap (λ (x : Called). x.number) e) in
+        let next : row_lines rest s pixels row cells ≡ joined (line new) (row_lines m r.state pixels new held) =
+        ap (λ k. row_lines k s pixels row cells) one
+        ∙ lines_more s pixels row cells m accepted
+        ∙ ap (λ (x : Called). joined (line x.out) (row_lines m x.state pixels x.out x.cells)) (sym e) in
+        record {
+          done = done;
+          end = ap₂ ◌+◌ p.end size ∙ sym (length-append p.done (line new));
+          is =
+              ap (λ l. take at text ++ (l ++ drop (length text - at) (drop at text))) put
+              ∙ front_more p.done (line new) old text at p.is p.end;
+          all =
+              ap (λ t. let rest = row_lines m r.state pixels new held in record { number = rest.number; made = t; state = rest.state; cells = rest.cells })
+              (append_assoc p.done (line new) (row_lines m r.state pixels new held).made)
+              ∙ ap (joined p.done) (sym next)
+              ∙ p.all;
+        }

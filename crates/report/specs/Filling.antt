@@ -1,8 +1,9 @@
 -- What filling a text answers and leaves in what it was lent, for every argument.
-use Rattle.std.specs.Prelude.{true, cond, List, [], ◌++◌, ℕ, zero, suc, ◌+◌, ◌-◌, ◌*◌, ◌/◌, max, length, drop, replicate}
+use Rattle.std.specs.Prelude.{true, cond, Option, Some, None, List, [], ◌++◌, ℕ, zero, suc, ◌+◌, ◌-◌, ◌*◌, ◌/◌, max, length, drop, replicate}
 use Rattle.spec.specs.Recipe.{recipe}
 use Rattle.spec.specs.Picture.{full_width_of}
-use Rattle.spec.specs.Refusals.{either}
+use Rattle.spec.specs.declared.refusal.Refusal.{Refusal}
+use Rattle.spec.specs.Refusals.{number, either}
 use Rattle.spec.specs.Program.{line}
 use Rattle.stream.specs.declared.calls.State.{State}
 use Rattle.rows.specs.Advance.{advance}
@@ -66,8 +67,13 @@ pub record Filling : Type 0 where
   pub cells : List ℕ
   pub text : List ℕ
 
+-- 0, or the number of the refusal that ended the filling
+abbrev pub ended : Option Refusal → ℕ
+ended None = 0
+ended (Some e) = number e
+
 unfoldable pub filled : Filled → List ℕ → List ℕ → Filling
-filled a cells text = record { number = a.refusal; count = a.count; opened = a.opened; cells = cells; text = text }
+filled a cells text = record { number = ended a.end; count = a.count; opened = a.opened; cells = cells; text = text }
 
 -- a job whose first line is out
 unfoldable pub begun : Opened → State → Opened

@@ -1,31 +1,32 @@
 // Filling a text with the next whole lines: the first line, and then those of the next grown rows.
-ghost use Rattle.std.specs.Prelude.{◌≡◌, ◌+◌, ◌*◌, ◌≤◌, min, length};
+ghost use Rattle.std.specs.Prelude.{◌≡◌, ◌+◌, ◌*◌, ◌≤◌, length};
 ghost use Rattle.spec.specs.Program.{line as line_of};
 ghost use Rattle.report.specs.Opening.{front};
 ghost use Rattle.report.specs.Filling.{row_lines, next_lines, heading, job_lines, filled, fill as fillOf};
 ghost use Rattle.report.specs.Private.{Put};
 
 use crate::opening::{Opened, head};
-use filter::{FullSize, full_size};
+use filter::full_size;
 use rows::advance;
+use spec::Refusal;
 use stream::State;
-use text::{Line, line};
+use text::line;
 
-// The answer of a filling: 0, or the number by which the next grown row was refused, how many bytes stand
-// filled at the front of the text, and the job as the next call takes it.
+// The answer of a filling: why the next grown row was refused, where it was, how many bytes stand filled
+// at the front of the text, and the job as the next call takes it.
 #[derive(Drop)]
 pub struct Filled {
-    pub refusal: u8,
+    pub end: Option<Refusal>,
     pub count: usize,
     pub opened: Opened,
 }
 
-// 0, or the number by which the next grown row was refused; where the lines of grown rows end, and the
+// Why the next grown row was refused, where it was; how many bytes the lines of grown rows have, and the
 // state after them.
 #[derive(Drop)]
 struct Reached {
-    refusal: u8,
-    end: usize,
+    end: Option<Refusal>,
+    count: usize,
     state: State,
 }
 
@@ -34,12 +35,8 @@ fn print(row: &[u64], text: &mut [u8]) -> usize
     requires { 21 * length row.now + 1 ≤ length text.old }
     ensures { let t = line_of row.now in (result ≡ length t) × (text.new ≡ front t text.old) }
 {
-    let z: usize = 0;
     let room = 21 * row.len() + 1;
-    match line(row, &mut text[z..room]) {
-        Line::Length(n) => n,
-        Line::Refused(_) => 0,
-    }
+    line(row, &mut text[..room]).unwrap()
 }
 
 // The lines of the next grown rows, as many as `count` says or as can be had, each straight to its place.
@@ -56,23 +53,23 @@ fn put_lines(
     ensures { Put (row_lines count state pixels.now row.old cells.old) result cells.new text.old text.new }
 {
     let mut at = state;
-    let mut end: usize = 0;
-    let room = text.len();
-    for k in 0..count {
-        let next = advance(at, pixels, row, cells);
-        if next.refusal != 0 {
-            return Reached {
-                refusal: next.refusal,
-                end,
-                state: at,
-            };
+    let mut end = 0;
+    for _ in 0..count {
+        match advance(at, pixels, row, cells) {
+            Ok(next) => at = next.state,
+            Err(refused) => {
+                return Reached {
+                    end: Some(refused.refusal),
+                    count: end,
+                    state: at,
+                };
+            }
         }
-        at = next.state;
-        end += print(row, &mut text[end..room]);
+        end += print(row, &mut text[end..]);
     }
     Reached {
-        refusal: 0,
-        end,
+        end: None,
+        count: end,
         state: at,
     }
 }
@@ -83,20 +80,17 @@ fn put_rows(state: State, pixels: &[u8], cells: &mut [u64], text: &mut [u8]) -> 
     requires { 65472 ≤ length text.old }
     ensures { Put (next_lines state pixels.now cells.old) result cells.new text.old text.new }
 {
-    match full_size(state.filter, state.width, state.height) {
-        FullSize::Refused(_) => Reached {
-            refusal: 9,
-            end: 0,
+    let Ok(grown) = full_size(state.filter, state.width, state.height) else {
+        return Reached {
+            end: Some(Refusal::BadState),
+            count: 0,
             state,
-        },
-        FullSize::Sides { width, .. } => {
-            // 1,024 + 255, the widest grown row
-            let mut row = [0u64; 1279];
-            let z: usize = 0;
-            let count = 65472 / (21 * width + 1);
-            put_lines(state, count, pixels, &mut row[z..width], cells, text)
-        }
-    }
+        };
+    };
+    // 1,024 + 255, the widest grown row
+    let mut row = [0u64; 1279];
+    let count = 65472 / (21 * grown.width + 1);
+    put_lines(state, count, pixels, &mut row[..grown.width], cells, text)
 }
 
 // The first line at the front of a text, where it is not out yet; its length.
@@ -109,15 +103,8 @@ fn begin(opened: Opened, text: &mut [u8]) -> usize
     }
     let mut first = [0u8; 64];
     let count = head(opened, &mut first);
-    let z: usize = 0;
-    text[z..count].copy_from_slice(&first[z..count]);
+    text[..count].copy_from_slice(&first[..count]);
     count
-}
-
-fn least(a: usize, b: usize) -> usize
-    ensures { result ≡ min a b }
-{
-    if a < b { a } else { b }
 }
 
 // The first line, where it is not out yet, and the lines of the next grown rows.
@@ -126,40 +113,30 @@ fn put_all(opened: Opened, job: &[u8], cells: &mut [u64], text: &mut [u8]) -> Re
     ensures { Put (job_lines opened job.now cells.old) result cells.new text.old text.new }
 {
     let from = begin(opened, text);
-    let state = opened.state;
-    let end = job.len();
-    let offset = least(opened.offset, end);
-    let room = text.len();
-    let rows = put_rows(state, &job[offset..end], cells, &mut text[from..room]);
-    let state = rows.state;
+    let offset = opened.offset.min(job.len());
+    let rows = put_rows(opened.state, &job[offset..], cells, &mut text[from..]);
     Reached {
-        refusal: rows.refusal,
-        end: from + rows.end,
-        state,
+        count: from + rows.count,
+        ..rows
     }
 }
 
 // Fills the front of a text with the next whole lines: the first line if it is not out yet, and the lines
 // of as many of the next grown rows as surely have room. Where one of these is refused, it stops there and
-// the answer has the number: 10 where all are out, 9 for a job that was refused; else the number is 0, and
+// the answer has the refusal: 10 where all are out, 9 for a job that was refused; else it has none, and
 // a further call goes on.
 pub fn fill(opened: Opened, job: &[u8], cells: &mut [u64], text: &mut [u8; 65536]) -> Filled
     ensures text_after { filled result cells.new text.new ≡ fillOf opened job.now cells.old text.old }
     ensures count_bound { result.count ≤ 65536 }
 {
     let lines = put_all(opened, job, cells, text);
-    let state = lines.state;
     Filled {
-        refusal: lines.refusal,
-        count: lines.end,
+        end: lines.end,
+        count: lines.count,
         opened: Opened {
-            refusal: opened.refusal,
-            state,
-            offset: opened.offset,
-            width: opened.width,
-            height: opened.height,
-            gain: opened.gain,
+            state: lines.state,
             is_begun: true,
+            ..opened
         },
     }
 }

@@ -16,14 +16,16 @@ use Rattle.spec.specs.Refusals.{Check, check, first, either, lent, bad_state, ro
 use Rattle.laws.proofs.Lists.{length_tab}
 use Rattle.laws.proofs.Refusals.{lent_refused, lent_accepted, as_stated}
 use Rattle.stream.specs.declared.calls.State.{State}
-use Rattle.stream.specs.declared.calls.Started.{Started}
+use Rattle.std.specs.Prelude.{Result, Ok, Err, IsOk}
 use Rattle.stream.specs.declared.calls.Stepped.{Stepped}
+use Rattle.stream.specs.declared.calls.Refused.{Refused}
 use Rattle.stream.specs.Stages.{entering}
 use Rattle.stream.specs.Calls.{state_of, began, start, Called, called, answers, steps, push, drain}
 use Rattle.rows.specs.Runs.{answer_of, picture_row}
 use Rattle.rows.specs.Streaming.{Streamed, Due, Came, picture_of}
 use Rattle.rows.specs.Advance.{picture_due, next_call, advance, Skipped, skipped, skip}
-use Rattle.rows.proofs.Driving.{row_came, drain_came, begun, is_due, has_come}
+use Rattle.laws.proofs.Results.{number_not_zero}
+use Rattle.rows.proofs.Driving.{called_ok, row_came, drain_came, begun, is_due, has_come}
 
 -- ---- one call by cases
 
@@ -106,27 +108,36 @@ module _ (s : State) (pixels out cells : List ℕ) where
         (λ q. omega arith))
 
   -- where a grown row is due, it comes
-  pub has_advanced : Due s pixels out cells → Within largest_gray (picture_of s pixels) → (r : Stepped) (row held : List ℕ)
-      → called r row held ≡ advance s pixels out cells → Came s r.state pixels row held
+  come : Due s pixels out cells → Within largest_gray (picture_of s pixels) → (a : Called) → a ≡ advance s pixels out cells
+      → (a.number ≡ 0) × Came s a.state pixels a.out a.cells
   unfolding answer_of
-  has_advanced d small r row held e =
+  come d small a e =
       elim (dec_lt s.emitted s.height) [
         | yes h ↦
             let came =
-            row_came s.filter (picture_of s pixels) s.emitted s cells d.streamed out d.wide small r row held h (e ∙ sym (advance_row d.size h)) in
-            record { streamed = came.0; exact = came.1 }
+            row_came s.filter (picture_of s pixels) s.emitted s cells d.streamed out d.wide small a h (e ∙ sym (advance_row d.size h)) in
+            (came.0, record { streamed = came.1; exact = came.2 })
         | no h ↦
             let late : s.height ≤ s.emitted = omega arith in
             let came =
-            drain_came s.filter (picture_of s pixels) s.emitted s cells d.streamed out d.wide small r row held late d.due (e ∙ sym (advance_drain d.size late)) in
-            record { streamed = came.0; exact = came.1 }
+            drain_came s.filter (picture_of s pixels) s.emitted s cells d.streamed out d.wide small a late d.due (e ∙ sym (advance_drain d.size late)) in
+            (came.0, record { streamed = came.1; exact = came.2 })
       ]
 
+  pub is_advanced : Due s pixels out cells → Within largest_gray (picture_of s pixels) → (r : Result Stepped Refused) (row held : List ℕ)
+      → called r row held ≡ advance s pixels out cells → IsOk r
+  is_advanced d small r row held e = called_ok r row held (come d small (called r row held) e).0
+
+  pub has_advanced : Due s pixels out cells → Within largest_gray (picture_of s pixels) → (t : Stepped) (row held : List ℕ)
+      → called (Ok t) row held ≡ advance s pixels out cells → Came s t.state pixels row held
+  unfolding called
+  has_advanced d small t row held e = (come d small (called (Ok t) row held) e).1
+
   -- one call more, which `skip` counts
-  pub skip_more : (n m : ℕ) → n ≡ suc m → (r : Stepped) (row held : List ℕ) → called r row held ≡ advance s pixels out cells
-      → skip n s pixels out cells ≡ skip m r.state pixels row held
+  pub skip_more : (n m : ℕ) → n ≡ suc m → (t : Stepped) (row held : List ℕ) → called (Ok t) row held ≡ advance s pixels out cells
+      → skip n s pixels out cells ≡ skip m t.state pixels row held
   unfolding skip called
-  skip_more n m e r row held a =
+  skip_more n m e t row held a =
       ap (λ k. skip k s pixels out cells) e ∙ ap (λ (x : Called). skip m x.state pixels x.out x.cells) (sym a)
 
 -- what a call leaves, but for its number and count
@@ -176,46 +187,57 @@ skip_stopped (suc n) s pixels out cells h =
     ap (λ (x : Skipped). skip n x.state pixels x.row x.cells) (advance_stopped s pixels out cells h)
     ∙ skip_stopped n s pixels out cells h
 
-pub skip_refused : (n : ℕ) (s : State) (pixels out cells : List ℕ) (r : Stepped) (row held : List ℕ)
-    → called r row held ≡ advance s pixels out cells → (r.refusal ≡ 0 → ⊥) → skipped r.state row held ≡ skip n s pixels out cells
+pub skip_refused : (n : ℕ) (s : State) (pixels out cells : List ℕ) (r : Refused) (row held : List ℕ)
+    → called (Err r) row held ≡ advance s pixels out cells → skipped r.state row held ≡ skip n s pixels out cells
 unfolding called left skipped
-skip_refused n s pixels out cells r row held e h =
-    let refused : ((advance s pixels out cells).number ≡ 0 → ⊥) = λ z. h (ap (λ (x : Called). x.number) e ∙ z) in
+skip_refused n s pixels out cells r row held e =
+    let refused : ((advance s pixels out cells).number ≡ 0 → ⊥) = λ z. number_not_zero r.refusal (ap (λ (x : Called). x.number) e ∙ z) in
     ap left e ∙ advance_stopped s pixels out cells refused ∙ sym (skip_stopped n s pixels out cells refused)
 
 -- the next grown row, in the words of those that drive the one pass
 module _ (f : Filter) (w h : ℕ) (pixels : List ℕ) (size : length pixels ≡ w * h) (small : Within largest_gray (picture w h pixels)) where
-  pub next_row : (k : ℕ) (s : State) (cells : List ℕ) → Streamed f (picture w h pixels) k s cells → (out : List ℕ) → k < full_height_of (recipe f) h
-      → length out ≡ full_width_of (recipe f) w → (r : Stepped) (row held : List ℕ) → called r row held ≡ advance s pixels out cells
-      → Streamed f (picture w h pixels) (k + 1) r.state held × (row ≡ full_row (recipe f) (picture w h pixels) k)
-  next_row k s cells st out due wide r row held e =
+  pub next : (k : ℕ) (s : State) (cells : List ℕ) → Streamed f (picture w h pixels) k s cells → (out : List ℕ) → k < full_height_of (recipe f) h
+      → length out ≡ full_width_of (recipe f) w → (a : Called) → a ≡ advance s pixels out cells
+      → (a.number ≡ 0) × Streamed f (picture w h pixels) (k + 1) a.state a.cells × (a.out ≡ full_row (recipe f) (picture w h pixels) k)
+  next k s cells st out due wide a e =
       let bytes : Within largest_gray (picture_of s pixels) = subst (λ (t : State). Within largest_gray (picture_of t pixels)) (sym st.is) small in
-      has_come f w h pixels k s cells st r.state row held
-      (has_advanced s pixels out cells (is_due f w h pixels k s cells st out size due wide) bytes r row held e)
+      let all = come s pixels out cells (is_due f w h pixels k s cells st out size due wide) bytes a e in
+      let came = has_come f w h pixels k s cells st a.state a.out a.cells all.1 in
+      (all.0, came.0, came.1)
+
+  module _ (k : ℕ) (s : State) (cells : List ℕ) (st : Streamed f (picture w h pixels) k s cells) (out : List ℕ) (due : k < full_height_of (recipe f) h)
+      (wide : length out ≡ full_width_of (recipe f) w) where
+    pub next_ok : (r : Result Stepped Refused) (row held : List ℕ) → called r row held ≡ advance s pixels out cells → IsOk r
+    next_ok r row held e = called_ok r row held (next k s cells st out due wide (called r row held) e).0
+
+    pub next_row : (t : Stepped) (row held : List ℕ) → called (Ok t) row held ≡ advance s pixels out cells
+        → Streamed f (picture w h pixels) (k + 1) t.state held × (row ≡ full_row (recipe f) (picture w h pixels) k)
+    unfolding called
+    next_row t row held e = let all = next k s cells st out due wide (called (Ok t) row held) e in (all.1, all.2)
 
   -- so many rows are passed over, as long as there are so many
   pub has_skipped : (n k : ℕ) (s : State) (row cells : List ℕ) → Streamed f (picture w h pixels) k s cells → k + n ≤ full_height_of (recipe f) h
       → length row ≡ full_width_of (recipe f) w → (t : State) (left held : List ℕ) → skipped t left held ≡ skip n s pixels row cells
       → Streamed f (picture w h pixels) (k + n) t held
-  unfolding skip skipped called full_row
+  unfolding skip skipped full_row
   has_skipped zero k s row cells st fits wide t left held e =
       let none : k ≡ k + 0 = omega arith in
       subst (λ (x : Skipped). Streamed f (picture w h pixels) (k + 0) x.state x.cells) (sym e)
       (subst (λ m. Streamed f (picture w h pixels) m s cells) none st)
   has_skipped (suc n) k s row cells st fits wide t left held e =
       let a = advance s pixels row cells in
-      let came = next_row k s cells st row (omega arith) wide (record { refusal = a.number; state = a.state; count = a.count }) a.out a.cells refl in
-      let long = ap length came.1 ∙ length_tab (full_width_of (recipe f) w) (λ i. exact (recipe f) (picture w h pixels) i k) in
-      let next : k + 1 + n ≡ k + suc n = omega arith in
-      subst (λ m. Streamed f (picture w h pixels) m t held) next
-      (has_skipped n (k + 1) a.state a.out a.cells came.0 (omega arith) long t left held e)
+      let came = next k s cells st row (omega arith) wide a refl in
+      let long = ap length came.2 ∙ length_tab (full_width_of (recipe f) w) (λ i. exact (recipe f) (picture w h pixels) i k) in
+      let more : k + 1 + n ≡ k + suc n = omega arith in
+      subst (λ m. Streamed f (picture w h pixels) m t held) more
+      (has_skipped n (k + 1) a.state a.out a.cells came.1 (omega arith) long t left held e)
 
   -- and so many from an accepted start on
   pub has_begun : (n : ℕ) → n ≤ full_height_of (recipe f) h → (given : List ℕ) → first (start_checks (recipe f) w h (length given)) ≡ 0
-      → (a : Started) (cells : List ℕ) → began a cells ≡ start f w h given → (row : List ℕ) → length row ≡ full_width_of (recipe f) w
-      → (t : State) (left held : List ℕ) → skipped t left held ≡ skip n a.state pixels row cells → Streamed f (picture w h pixels) n t held
-  has_begun n fits given none a cells is row wide t left held e =
+      → (s : State) (cells : List ℕ) → began (Ok s) cells ≡ start f w h given → (row : List ℕ) → length row ≡ full_width_of (recipe f) w
+      → (t : State) (left held : List ℕ) → skipped t left held ≡ skip n s pixels row cells → Streamed f (picture w h pixels) n t held
+  has_begun n fits given none s cells is row wide t left held e =
       let whole : 0 + n ≤ full_height_of (recipe f) h = omega arith in
       let same : 0 + n ≡ n = omega arith in
       subst (λ m. Streamed f (picture w h pixels) m t held) same
-      (has_skipped n 0 a.state row cells (begun f (picture w h pixels) given a cells none is) whole wide t left held e)
+      (has_skipped n 0 s row cells (begun f (picture w h pixels) given s cells none is) whole wide t left held e)

@@ -14,15 +14,29 @@ use Rattle.spec.specs.Recipe.{recipe}
 use Rattle.spec.specs.Picture.{Picture, picture, largest_gray, Within, full_width_of, full_height_of, full_row}
 use Rattle.spec.specs.Refusals.{check, first, either, other_pixels, other_output, size_checks, start_checks}
 use Rattle.laws.proofs.Lists.{get_d_tab, length_part, tab_more}
+use Rattle.laws.proofs.Results.{number_not_zero}
 use Rattle.laws.proofs.Refusals.{as_stated, none_both, size_numbered, is_sized}
 use Rattle.stream.specs.declared.calls.State.{State}
-use Rattle.stream.specs.declared.calls.Started.{Started}
+use Rattle.std.specs.Prelude.{Result, Ok, Err, IsOk}
+use Rattle.spec.specs.declared.refusal.Refusal.{Refusal}
 use Rattle.stream.specs.declared.calls.Stepped.{Stepped}
+use Rattle.stream.specs.declared.calls.Refused.{Refused}
 use Rattle.stream.specs.Calls.{state_at, Began, began, start, started, Called, called, next}
 use Rattle.rows.specs.Runs.{Call, a_row, a_drain, answer_of, Yielded, run, Carried, carried, row_of, rows, outputs, picture_row}
 use Rattle.rows.specs.OnePass.{accepted_calls, left}
 use Rattle.rows.proofs.Run.{one_pass, first_rows, accepted_start, length_outputs, next_state, carried_append, run_append, rows_append, outputs_append}
 use Rattle.rows.specs.Streaming.{Streamed, Due, Came}
+
+-- an answer without a number is accepted
+pub called_ok : (r : Result Stepped Refused) (out cells : List ℕ) → (called r out cells).number ≡ 0 → IsOk r
+unfolding called
+called_ok (Ok a) out cells z = refl
+called_ok (Err e) out cells z = absurd (number_not_zero e.refusal z)
+
+began_ok : (r : Result State Refusal) (cells : List ℕ) → (began r cells).number ≡ 0 → IsOk r
+unfolding began
+began_ok (Ok s) cells z = refl
+began_ok (Err e) cells z = absurd (number_not_zero e z)
 
 module _ (f : Filter) (p : Picture) where
   abbrev at : ℕ → State
@@ -125,34 +139,42 @@ module _ (f : Filter) (p : Picture) where
         let e : min k p.height ≡ min (k + 1) p.height = omega arith in
         append-nil (tab (min k p.height) (picture_row p)) ∙ ap (λ n. tab n (picture_row p)) e
 
-    module _ (small : Within largest_gray p) (r : Stepped) (row left : List ℕ) where
-      pub row_came : k < p.height → called r row left ≡ answer_of (a_row (picture_row p k) out) s cells
-          → Streamed f p (k + 1) r.state left × (row ≡ full_row (recipe f) p k)
-      unfolding called row_of
+    module _ (small : Within largest_gray p) (a : Called) where
+      pub row_came : k < p.height → a ≡ answer_of (a_row (picture_row p k) out) s cells
+          → (a.number ≡ 0) × Streamed f p (k + 1) a.state a.cells × (a.out ≡ full_row (recipe f) p k)
+      unfolding row_of
       row_came h e =
           let c = a_row (picture_row p k) out in
           let ok = row-accepted h in
           let follows = row_follows h in (
-            subst (λ (a : Called). Streamed f p (k + 1) a.state a.cells) (sym e) (one_more k s cells st c ok follows),
-            ap (λ (a : Called). a.out) e ∙ yields-row k s cells st c ok follows small,
+            ap (λ (x : Called). x.number) e ∙ ok,
+            subst (λ (x : Called). Streamed f p (k + 1) x.state x.cells) (sym e) (one_more k s cells st c ok follows),
+            ap (λ (x : Called). x.out) e ∙ yields-row k s cells st c ok follows small,
           )
 
-      pub drain_came : p.height ≤ k → k < full_height_of (recipe f) p.height → called r row left ≡ answer_of (a_drain out) s cells
-          → Streamed f p (k + 1) r.state left × (row ≡ full_row (recipe f) p k)
-      unfolding called row_of
+      pub drain_came : p.height ≤ k → k < full_height_of (recipe f) p.height → a ≡ answer_of (a_drain out) s cells
+          → (a.number ≡ 0) × Streamed f p (k + 1) a.state a.cells × (a.out ≡ full_row (recipe f) p k)
+      unfolding row_of
       drain_came h g e =
           let c = a_drain out in
           let ok = drain-accepted h g in
           let follows = none-follows h in (
-            subst (λ (a : Called). Streamed f p (k + 1) a.state a.cells) (sym e) (one_more k s cells st c ok follows),
-            ap (λ (a : Called). a.out) e ∙ yields-row k s cells st c ok follows small,
+            ap (λ (x : Called). x.number) e ∙ ok,
+            subst (λ (x : Called). Streamed f p (k + 1) x.state x.cells) (sym e) (one_more k s cells st c ok follows),
+            ap (λ (x : Called). x.out) e ∙ yields-row k s cells st c ok follows small,
           )
 
-  -- the state and the cells of an accepted start
-  pub begun : (cells : List ℕ) (a : Started) (held : List ℕ) → first (start_checks (recipe f) p.width p.height (length cells)) ≡ 0
-      → began a held ≡ start f p.width p.height cells → Streamed f p 0 a.state held
+  -- an accepted start
+  pub has_started : (cells : List ℕ) (r : Result State Refusal) (held : List ℕ) → first (start_checks (recipe f) p.width p.height (length cells)) ≡ 0
+      → began r held ≡ start f p.width p.height cells → IsOk r
+  unfolding started
+  has_started cells r held z e = began_ok r held (ap (λ (b : Began). b.number) (e ∙ accepted_start f p cells z))
+
+  -- its state and its cells
+  pub begun : (cells : List ℕ) (s : State) (held : List ℕ) → first (start_checks (recipe f) p.width p.height (length cells)) ≡ 0
+      → began (Ok s) held ≡ start f p.width p.height cells → Streamed f p 0 s held
   unfolding began started start_checks accepted_calls run left carried rows tab
-  begun cells a held z e =
+  begun cells s held z e =
       let none : min 0 p.height ≡ 0 = omega arith in
       let is = accepted_start f p cells z in
       record {

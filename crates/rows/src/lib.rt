@@ -5,12 +5,13 @@
 ghost use Rattle.std.specs.Prelude.{◌≡◌, true, [], ◌∷◌, ◌*◌, leb};
 ghost use Rattle.spec.specs.Recipe.{recipe};
 ghost use Rattle.spec.specs.Picture.{full_height_of};
-ghost use Rattle.spec.specs.Refusals.{check, first, bad_state, other_pixels};
+ghost use Rattle.spec.specs.Refusals.{check, first, bad_state, number, other_pixels};
 ghost use Rattle.stream.specs.Calls.{state_of, called};
 ghost use Rattle.rows.specs.Advance.{advance as advanceOf, skipped, skip as skipOf};
 
-use filter::{FullSize, full_size};
-pub use stream::{State, Stepped};
+use filter::full_size;
+use spec::Refusal;
+pub use stream::{Refused, State, Stepped};
 use stream::{drain, push};
 
 // Whether a slice of `len` pixels has another length than a picture of these sides. It divides, since a
@@ -21,45 +22,41 @@ fn is_other_length(len: usize, width: usize, height: usize) -> bool
     if width == 0 {
         return len != 0;
     }
-    if len % width != 0 {
-        return true;
-    }
-    len / width != height
+    len % width != 0 || len / width != height
 }
 
-// The number for a picture slice of another length: 9, 10 where all grown rows are out, and else 6.
-fn pixels_refusal(state: State) -> u8
-    ensures { result ≡ first (check (bad_state (state_of state)) 9 ∷ check (leb (full_height_of (recipe state.filter) state.height) state.emitted) 10 ∷ check true 6 ∷ []) }
+// Why a picture slice of another length is refused: 9, 10 where all grown rows are out, and else 6.
+fn pixels_refusal(state: State) -> Refusal
+    ensures { number result ≡ first (check (bad_state (state_of state)) 9 ∷ check (leb (full_height_of (recipe state.filter) state.height) state.emitted) 10 ∷ check true 6 ∷ []) }
 {
+    let Ok(grown) = full_size(state.filter, state.width, state.height) else {
+        return Refusal::BadState;
+    };
     let at = state.emitted;
-    match full_size(state.filter, state.width, state.height) {
-        FullSize::Refused(_) => 9,
-        FullSize::Sides { height, .. } => {
-            if height < at {
-                9
-            } else if height <= at {
-                10
-            } else {
-                6
-            }
-        }
+    if grown.height < at {
+        Refusal::BadState
+    } else if grown.height <= at {
+        Refusal::NotDue
+    } else {
+        Refusal::OtherPixels
     }
 }
 
 // The next grown row of a picture: by a row call while rows of the picture are due, then by a drain.
 // Refused by 9, by 10 where all grown rows are out, by 6 for a picture slice of another length, by 7 and 8.
-pub fn advance(state: State, pixels: &[u8], out: &mut [u64], cells: &mut [u64]) -> Stepped
+pub fn advance(
+    state: State,
+    pixels: &[u8],
+    out: &mut [u64],
+    cells: &mut [u64],
+) -> Result<Stepped, Refused>
     ensures { called result out.new cells.new ≡ advanceOf state pixels.now out.old cells.old }
 {
     let at = state.emitted;
     let width = state.width;
     if is_other_length(pixels.len(), width, state.height) {
-        let number = pixels_refusal(state);
-        return Stepped {
-            refusal: number,
-            state,
-            count: 0,
-        };
+        let refusal = pixels_refusal(state);
+        return Err(Refused { refusal, state });
     }
     if at < state.height {
         let from = at * width;
@@ -77,12 +74,11 @@ pub fn skip(state: State, count: usize, pixels: &[u8], row: &mut [u64], cells: &
     ensures { skipped result row.new cells.new ≡ skipOf count state pixels.now row.old cells.old }
 {
     let mut at = state;
-    for k in 0..count {
-        let next = advance(at, pixels, row, cells);
-        if next.refusal != 0 {
-            return next.state;
+    for _ in 0..count {
+        match advance(at, pixels, row, cells) {
+            Ok(next) => at = next.state,
+            Err(refused) => return refused.state,
         }
-        at = next.state;
     }
     at
 }

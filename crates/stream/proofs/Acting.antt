@@ -6,10 +6,9 @@ use lib.ListN.{get_or-append}
 use lib.Seq.{drop-append-le}
 use Rattle.spec.specs.Words.{tab}
 use Rattle.laws.proofs.Lists.{length_tab, get_d_tab, tab_agree, tab_get_d}
-use Rattle.laws.proofs.Slices.{length_lent, patched, patched_before, patched_after, length_patched}
+use Rattle.laws.proofs.Slices.{patched, patched_before, patched_after, length_patched}
 use Rattle.stream.specs.Stages.{Worked, plus, minus, slot_total, column_pair, column_slot}
-use Rattle.stream.specs.Private.{pair_at}
-use Rattle.stream.proofs.Groups.{Kept}
+use Rattle.stream.specs.Private.{pair_at, Kept}
 
 tab_append : (n m : ℕ) (f : ℕ → ℕ) → tab (n + m) f ≡ tab n f ++ tab m (λ j. f (n + j))
 unfolding tab
@@ -216,8 +215,8 @@ pair_lent at to x own p h =
 -- the totals in the front of an array, and what is left of them; both slots are lent
 pub slot_lent : (b o : ℕ) (x own totals rest kept made : List ℕ) → b + length x ≤ length own → o + length x ≤ length own
     → totals ≡ tab (length x) (λ j. plus (get_or (take (b + length x - b) (drop b own)) j 0) (get_or x j 0))
-    → kept ≡ take (length x - 0) (totals ++ rest)
-    → made ≡ tab (length x) (λ j. minus (get_or (take (length x - 0) (totals ++ rest)) j 0) (get_or (take (o + length x - o) (drop o own)) j 0))
+    → kept ≡ take (length x) (totals ++ rest)
+    → made ≡ tab (length x) (λ j. minus (get_or (take (length x) (totals ++ rest)) j 0) (get_or (take (o + length x - o) (drop o own)) j 0))
     → (made ≡ (column_slot b o x own).row)
     × (take o own ++ (kept ++ drop (o + length x - o) (drop o own)) ≡ (column_slot b o x own).cells)
 unfolding column_slot slot_total
@@ -227,45 +226,15 @@ slot_lent b o x own totals rest kept made p q t l m =
     λ a j g. get_or-take (a + n - a) (drop a own) j 0 (omega arith) ∙ get_or-drop a own j 0 in
     let so : totals ≡ tab n (slot_total b x own) =
     t ∙ tab_agree n (λ j. plus (get_or (take (b + n - b) (drop b own)) j 0) (get_or x j 0)) (slot_total b x own) (λ j g. ap (λ v. plus v (get_or x j 0)) (at b j g)) in
-    let k : length totals ≡ n - 0 = ap length so ∙ length_tab n (slot_total b x own) ∙ omega arith in
-    let lent = take (n - 0) (totals ++ rest) in
-    let all : lent ≡ tab n (slot_total b x own) = take_at totals rest (n - 0) k ∙ so in
+    let k : length totals ≡ n = ap length so ∙ length_tab n (slot_total b x own) in
+    let lent = take n (totals ++ rest) in
+    let all : lent ≡ tab n (slot_total b x own) = take_at totals rest n k ∙ so in
     let d : o + n - o ≡ n = omega arith in (
       m
           ∙ tab_agree n (λ j. minus (get_or lent j 0) (get_or (take (o + n - o) (drop o own)) j 0)) (λ j. minus (slot_total b x own j) (get_or own (o + j) 0))
           (λ j g. ap₂ minus (ap (λ u. get_or u j 0) all ∙ get_d_tab n (slot_total b x own) j 0 g) (at o j g)),
       ap₂ (λ u v. take o own ++ (u ++ v)) (l ∙ all) (ap (λ i. drop i (drop o own)) d ∙ drop-drop n o own),
     )
-
--- an array of which a front was lent
-pub length_array : (n : ℕ) (new old : List ℕ) → length new ≡ n → n ≤ length old → length (new ++ drop (n - 0) old) ≡ length old
-length_array n new old e h = omega (arith, length-append new (drop (n - 0) old), length-drop (n - 0) old)
-
--- A block of columns: its values are copied into the front of an array, worked there by f, and copied back.
-module _ (f : List ℕ → List ℕ → Worked) (from few : ℕ) (row own rest : List ℕ) (h : from + few ≤ length row)
-    (x : List ℕ) (p : x ≡ take (from + few - from) (drop from row)) where
-  pub block_long : length x ≡ few
-  block_long = ap length p ∙ length_lent from few row h
-
-  pub block_in : take (few - 0) (x ++ rest) ≡ take few (drop from row)
-  block_in =
-      let n : few - 0 ≡ few = omega arith in
-      let d : from + few - from ≡ few = omega arith in
-      ap (λ k. take k (x ++ rest)) n ∙ take_at x rest few block_long ∙ p ∙ ap (λ k. take k (drop from row)) d
-
-  pub block_out : (y after more back : List ℕ) → length y ≡ few → y ≡ (f (take (few - 0) (x ++ rest)) own).row
-      → after ≡ (f (take (few - 0) (x ++ rest)) own).cells → back ≡ take (few - 0) (y ++ more)
-      → let made = f (take few (drop from row)) own in
-      (take from row ++ (back ++ drop (from + few - from) (drop from row)) ≡ take from row ++ (made.row ++ drop (from + few) row))
-      × (after ≡ made.cells)
-  block_out y after more back long q u v =
-      let n : few - 0 ≡ few = omega arith in
-      let d : from + few - from ≡ few = omega arith in (
-        ap₂ (λ a b. take from row ++ (a ++ b))
-            (v ∙ ap (λ k. take k (y ++ more)) n ∙ take_at y more few long ∙ q ∙ ap (λ l. (f l own).row) block_in)
-            (ap (λ k. drop k (drop from row)) d ∙ drop-drop few from row),
-        u ∙ ap (λ l. (f l own).cells) block_in,
-      )
 
 pub slot_acts : (b o : ℕ) (x own : List ℕ) → column_slot b o x own ≡ acting slot_made slot_kept b o x own
 unfolding column_slot slot_total acting vals

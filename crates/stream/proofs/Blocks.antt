@@ -7,30 +7,19 @@ use Rattle.spec.specs.Words.{total}
 use Rattle.spec.specs.Stream.{box_cells}
 use Rattle.laws.proofs.Lists.{tab_agree}
 use Rattle.stream.specs.Stages.{Worked, plus, slot_before, column_pair, column_slot, column_stage, stages}
-use Rattle.stream.specs.Private.{pair_at}
+use Rattle.stream.specs.Private.{pair_at, Kept, Acts}
 use Rattle.stream.proofs.Rings.{slot_inside, before_inside_lem, slots_apart}
 use Rattle.stream.proofs.Boxes.{cells_wide, column_two, column_wide}
-use Rattle.stream.proofs.Groups.{Kept, Keeps}
+use Rattle.stream.proofs.Groups.{Keeps}
 use Rattle.stream.proofs.Acting.{acting, acting_keeps, acting_append, acting_none, pair_made, pair_kept, slot_made, slot_kept, pair_acts, slot_acts}
 
 -- ---- a stage on the columns from a column on
-
--- Of w columns and so many cells, what f does from a column on.
-pub record Acts (w size : ℕ) (f : ℕ → List ℕ → List ℕ → Worked) : Type 0 where
-  pub keeps : (i : ℕ) (x own : List ℕ) → i + length x ≤ w → length own ≡ size → Kept (length x) size (f i x own)
-  pub none : (own : List ℕ) → f 0 [] own ≡ record { row = []; cells = own }
-  pub next : (x y own : List ℕ) → length x + length y ≤ w → length own ≡ size
-      → f 0 (x ++ y) own
-      ≡ record {
-        row = (f 0 x own).row ++ (f (length x) y (f 0 x own).cells).row;
-        cells = (f (length x) y (f 0 x own).cells).cells;
-      }
 
 acts_idle : (w size : ℕ) → Acts w size (λ i x own. record { row = x; cells = own })
 acts_idle w size =
     record {
       keeps = λ i x own h e. record { row = refl; cells = e };
-      none = λ own. refl;
+      none = λ own e. refl;
       next = λ x y own h e. refl;
     }
 
@@ -39,7 +28,7 @@ acts_acting : (made kept : ℕ → ℕ → ℕ → ℕ) (w size b o : ℕ) → o
 acts_acting made kept w size b o h d =
     record {
       keeps = λ i x own l e. subst (λ n. Kept (length x) n (acting made kept (b + i) (o + i) x own)) e (acting_keeps made kept (b + i) (o + i) x own (omega arith));
-      none = λ own. acting_none made kept (b + 0) (o + 0) own;
+      none = λ own e. acting_none made kept (b + 0) (o + 0) own;
       next =
           λ x y own l e.
           rw (add-zero b, add-zero o)
@@ -151,14 +140,15 @@ module _ (w : ℕ) (size : ℕ → ℕ) (act : ℕ → ℕ → List ℕ → List
   pub acts_keep : (i m : ℕ) → i + m ≤ w → Keeps size (act i) m
   acts_keep i m h n row own e l = subst (λ k. Kept k (size n) (act i n row own)) e ((acts n).keeps i row own (omega arith) l)
 
-  pub stages_none : (ns cells : List ℕ) → stages size (act 0) ns [] cells ≡ record { row = []; cells = cells }
-  unfolding stages
-  stages_none [] cells = refl
-  stages_none (n ∷ ns) cells =
+  pub stages_none : (ns cells : List ℕ) → total size ns ≤ length cells → stages size (act 0) ns [] cells ≡ record { row = []; cells = cells }
+  unfolding stages total
+  stages_none [] cells t = refl
+  stages_none (n ∷ ns) cells t =
       let own = take (size n) cells in
+      let few : length own ≡ size n = length-take-le (size n) cells (omega arith) in
       let rest = drop (size n) cells in
-      ap (λ (o : Worked). record { row = (stages size (act 0) ns o.row rest).row; cells = o.cells ++ (stages size (act 0) ns o.row rest).cells }) ((acts n).none own)
-      ∙ ap (λ (o : Worked). record { row = o.row; cells = own ++ o.cells }) (stages_none ns rest)
+      ap (λ (o : Worked). record { row = (stages size (act 0) ns o.row rest).row; cells = o.cells ++ (stages size (act 0) ns o.row rest).cells }) ((acts n).none own few)
+      ∙ ap (λ (o : Worked). record { row = o.row; cells = own ++ o.cells }) (stages_none ns rest (omega (arith, length-drop (size n) cells)))
       ∙ ap (λ l. record { row = []; cells = l }) (take-append-drop (size n) cells)
 
   pub stages_next : (ns x y cells : List ℕ) → length x + length y ≤ w → total size ns ≤ length cells

@@ -3,10 +3,7 @@
 use Rattle.std.proofs.Common.{◌≡◌, ℕ, suc, ◌+◌, ◌-◌, ◌*◌, ◌%◌, ◌^◌, ◌<◌, ◌≤◌, List, [], ◌∷◌, length, get_or, refl, ap, mul-le-mul, arith, le-ltb, lt-ltb, ne_eqb}
 use native.Mathlib.Decide.{dec_le, dec_lt}
 use Rattle.spec.specs.Words.{sum, tab, total}
-use Rattle.spec.specs.Recipe.{widths}
-use Rattle.spec.specs.declared.Cascade.{Cascade}
 use Rattle.laws.proofs.Lists.{total_most}
-use Rattle.filter.proofs.Widths.{length_widths}
 use Rattle.laws.proofs.Sequences.{behind, boxed, running, behind_zero, behind_within, behind_before, boxed_running}
 use Rattle.laws.proofs.Kernels.{at}
 use Rattle.spec.specs.Stream.{box_cells, box_cost}
@@ -110,7 +107,7 @@ cost_most n =
     ]
 
 -- the count of a cascade is small
-pub cascade_small : (list : Cascade) (w : ℕ) → list.count ≤ 48 → w ≤ 1279 → w * total box_cost (widths list) ≤ 1279 * 96
-cascade_small list w h k =
-    let n : total box_cost (widths list) ≤ 96 = omega (arith, total_most box_cost 2 cost_most (widths list), length_widths list) in
+pub cascade_small : (ns : List ℕ) (w : ℕ) → length ns ≤ 48 → w ≤ 1279 → w * total box_cost ns ≤ 1279 * 96
+cascade_small ns w h k =
+    let n : total box_cost ns ≤ 96 = omega (arith, total_most box_cost 2 cost_most ns) in
     mul-le-mul k n

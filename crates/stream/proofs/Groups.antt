@@ -1,18 +1,13 @@
 -- Groups of stages: the stages of a cascade are those of a first group and then those of the rest, and stages that work in turn on all
 -- cells are the stages on their own parts.
 -- Assumes nothing.
-use Rattle.std.proofs.Common.{◌≡◌, ℕ, zero, suc, ◌+◌, ◌-◌, ◌*◌, ◌<◌, ◌≤◌, List, [], ◌∷◌, ◌++◌, length, get_or, take, drop, sym, refl, ap, ◌∙◌, ap₂, append_assoc, mul-le-mul_left, mul-zero, mul-add, arith, length-append, length-drop, take-append-drop, length-take-le, take_all, take-suc, take-add}
+use Rattle.std.proofs.Common.{◌≡◌, ℕ, zero, suc, ◌+◌, ◌-◌, ◌*◌, ◌<◌, ◌≤◌, List, [], ◌∷◌, ◌++◌, length, get_or, take, drop, sym, refl, ap, ◌∙◌, ap₂, append_assoc, append-nil, mul-le-mul_left, mul-zero, mul-add, arith, length-append, length-drop, take-append-drop, length-take-le, take_all, take-suc}
 use lib.Seq.{take-append-add, drop-append-add}
 use Rattle.spec.specs.Words.{total}
 use Rattle.laws.proofs.Lists.{total_append}
 use Rattle.stream.specs.Stages.{Worked, stages}
-use Rattle.stream.specs.Private.{in_turn}
+use Rattle.stream.specs.Private.{in_turn, Kept}
 use Rattle.stream.proofs.Both.{stages_beyond}
-
--- a stage that keeps the lengths, of rows of m values
-pub record Kept (m size : ℕ) (done : Worked) : Type 0 where
-  pub row : length done.row ≡ m
-  pub cells : length done.cells ≡ size
 
 abbrev pub Keeps : (ℕ → ℕ) → (ℕ → List ℕ → List ℕ → Worked) → ℕ → Type 0
 Keeps size stage m = (n : ℕ) (row own : List ℕ) → length row ≡ m → length own ≡ size n → Kept m (size n) (stage n row own)
@@ -115,79 +110,78 @@ stages_agree size f g m keeps same (n ∷ ns) row cells e h =
 -- ---- a loop over the widths of a cascade, a group in each turn
 
 module _ (size cost : ℕ → ℕ) (stage : ℕ → List ℕ → List ℕ → Worked) (ws row₀ cells₀ : List ℕ) where
-  -- the first j stages are worked
-  pub record Done (j : ℕ) (row cells : List ℕ) (start sum : ℕ) : Type 0 where
-    pub inside : j ≤ length ws
-    pub row_is : row ≡ (stages size stage (take j ws) row₀ cells₀).row
-    pub cells_are : cells ≡ (stages size stage (take j ws) row₀ cells₀).cells
-    pub placed : start ≡ total size (take j ws)
-    pub counted : sum ≡ length row₀ * total cost (take j ws)
+  -- the stages of some first widths are worked, and these are left
+  pub record Done (rest row cells : List ℕ) (start sum : ℕ) : Type 0 where
+    pub done : List ℕ
+    pub all : ws ≡ done ++ rest
+    pub row_is : row ≡ (stages size stage done row₀ cells₀).row
+    pub cells_are : cells ≡ (stages size stage done row₀ cells₀).cells
+    pub placed : start ≡ total size done
+    pub counted : sum ≡ length row₀ * total cost done
 
-  pub done_none : Done 0 row₀ cells₀ 0 0
+  pub done_none : Done ws row₀ cells₀ 0 0
   unfolding stages total
-  done_none = record { inside = omega arith; row_is = refl; cells_are = refl; placed = refl; counted = omega (arith, mul-zero (length row₀)) }
+  done_none = record { done = []; all = refl; row_is = refl; cells_are = refl; placed = refl; counted = omega (arith, mul-zero (length row₀)) }
 
-  pub done_all : (j : ℕ) (row cells : List ℕ) (start sum : ℕ) → Done j row cells start sum → length ws ≤ j
+  pub done_all : (rest row cells : List ℕ) (start sum : ℕ) → Done rest row cells start sum → length rest ≡ 0
       → (sum ≡ length row₀ * total cost ws) × (row ≡ (stages size stage ws row₀ cells₀).row) × (cells ≡ (stages size stage ws row₀ cells₀).cells)
-  done_all j row cells start sum d h =
-      let e : take j ws ≡ ws = take_all j ws h in (
+  done_all [] row cells start sum d h =
+      let e : d.done ≡ ws = sym (d.all ∙ append-nil d.done) in (
         d.counted ∙ ap (λ l. length row₀ * total cost l) e,
         d.row_is ∙ ap (λ l. (stages size stage l row₀ cells₀).row) e,
         d.cells_are ∙ ap (λ l. (stages size stage l row₀ cells₀).cells) e,
       )
+  done_all (n ∷ ns) row cells start sum d h = absurd (omega arith)
 
   module _ (keeps : Keeps size stage (length row₀)) (room : total size ws ≤ length cells₀)
-      (j : ℕ) (row cells : List ℕ) (start sum : ℕ) (d : Done j row cells start sum) where
-    front-room : (i : ℕ) → total size (take i ws) ≤ length cells₀
-    front-room i = omega (arith, ap (total size) (take-append-drop i ws), total_append size (take i ws) (drop i ws))
+      (rest row cells : List ℕ) (start sum : ℕ) (d : Done rest row cells start sum) where
+    front-room : total size d.done ≤ length cells₀
+    front-room = omega (arith, ap (total size) d.all, total_append size d.done rest)
 
     pub done_length : (length row ≡ length row₀) × (length cells ≡ length cells₀)
     done_length =
-        let k = stages_keep size stage (length row₀) keeps (take j ws) row₀ cells₀ refl (front-room j) in
+        let k = stages_keep size stage (length row₀) keeps d.done row₀ cells₀ refl front-room in
         (ap length d.row_is ∙ k.row, ap length d.cells_are ∙ k.cells)
 
     -- the next group
-    module _ (k : ℕ) (inside : j + k ≤ length ws) where
-      abbrev ms : List ℕ
-      ms = take k (drop j ws)
-
-      with-group : take (j + k) ws ≡ take j ws ++ ms
-      with-group = take-add j k ws
+    module _ (ms later : List ℕ) (split : rest ≡ ms ++ later) where
+      with-group : ws ≡ (d.done ++ ms) ++ later
+      with-group = d.all ∙ ap (λ l. d.done ++ l) split ∙ sym (append_assoc d.done ms later)
 
       pub done_room : start + total size ms ≤ length cells
       done_room =
-          omega (arith, d.placed, done_length.1, front-room (j + k), ap (total size) with-group, total_append size (take j ws) ms)
+          omega (arith, d.placed, done_length.1, room, ap (total size) with-group, total_append size (d.done ++ ms) later, total_append size d.done ms)
 
       pub done_count : sum + length row₀ * total cost ms ≤ length row₀ * total cost ws
       done_count =
-          let e : total cost (take j ws) + total cost ms ≤ total cost ws =
-          omega (arith, ap (total cost) with-group, total_append cost (take j ws) ms, ap (total cost) (take-append-drop (j + k) ws), total_append cost (take (j + k) ws) (drop (j + k) ws)) in
-          omega (arith, d.counted, mul-add (length row₀) (total cost (take j ws)) (total cost ms), mul-le-mul_left (length row₀) e)
+          let e : total cost d.done + total cost ms ≤ total cost ws =
+          omega (arith, ap (total cost) with-group, total_append cost (d.done ++ ms) later, total_append cost d.done ms) in
+          omega (arith, d.counted, mul-add (length row₀) (total cost d.done) (total cost ms), mul-le-mul_left (length row₀) e)
 
       pub done_more : (end v : ℕ) (part new new_row : List ℕ) → end ≡ start + total size ms → v ≡ length row₀ * total cost ms
           → part ≡ take (end - start) (drop start cells) → new_row ≡ (stages size stage ms row part).row → new ≡ (stages size stage ms row part).cells
-          → Done (j + k) new_row (take start cells ++ (new ++ drop (end - start) (drop start cells))) end (sum + v)
+          → Done later new_row (take start cells ++ (new ++ drop (end - start) (drop start cells))) end (sum + v)
       unfolding after
       done_more end v part new new_row p q u s t =
-          let rest = drop (end - start) (drop start cells) in
+          let back = drop (end - start) (drop start cells) in
           let n : end - start ≡ total size ms = omega arith in
           let long : length part ≡ total size ms = ap length u ∙ length-take-le (end - start) (drop start cells) (omega (arith, length-drop start cells, done_room)) ∙ n in
-          let split : drop start cells ≡ part ++ rest = sym (take-append-drop (end - start) (drop start cells)) ∙ ap (λ l. l ++ rest) (sym u) in
-          let here : stages size stage ms row (drop start cells) ≡ record { row = new_row; cells = new ++ rest } =
-          ap (stages size stage ms row) split
-          ∙ stages_beyond size stage ms row part rest (sym long)
-          ∙ ap₂ (λ a b. record { row = a; cells = b ++ rest }) (sym s) (sym t) in
-          let all : stages size stage (take (j + k) ws) row₀ cells₀ ≡ record { row = new_row; cells = take start cells ++ (new ++ rest) } =
-          ap (λ l. stages size stage l row₀ cells₀) with-group
-          ∙ stages_then size stage (length row₀) keeps (take j ws) ms row₀ cells₀ refl (front-room j)
-          ∙ ap₂ (λ a b. record { row = (stages size stage ms a (drop (total size (take j ws)) b)).row; cells = take (total size (take j ws)) b ++ (stages size stage ms a (drop (total size (take j ws)) b)).cells }) (sym d.row_is) (sym d.cells_are)
+          let halves : drop start cells ≡ part ++ back = sym (take-append-drop (end - start) (drop start cells)) ∙ ap (λ l. l ++ back) (sym u) in
+          let here : stages size stage ms row (drop start cells) ≡ record { row = new_row; cells = new ++ back } =
+          ap (stages size stage ms row) halves
+          ∙ stages_beyond size stage ms row part back (sym long)
+          ∙ ap₂ (λ a b. record { row = a; cells = b ++ back }) (sym s) (sym t) in
+          let so : stages size stage (d.done ++ ms) row₀ cells₀ ≡ record { row = new_row; cells = take start cells ++ (new ++ back) } =
+          stages_then size stage (length row₀) keeps d.done ms row₀ cells₀ refl front-room
+          ∙ ap₂ (λ a b. record { row = (stages size stage ms a (drop (total size d.done) b)).row; cells = take (total size d.done) b ++ (stages size stage ms a (drop (total size d.done) b)).cells }) (sym d.row_is) (sym d.cells_are)
           ∙ ap (λ i. record { row = (stages size stage ms row (drop i cells)).row; cells = take i cells ++ (stages size stage ms row (drop i cells)).cells }) (sym d.placed)
           ∙ ap (λ (w : Worked). record { row = w.row; cells = take start cells ++ w.cells }) here in
           record {
-            inside = inside;
-            row_is = sym (ap (λ (w : Worked). w.row) all);
-            cells_are = sym (ap (λ (w : Worked). w.cells) all);
-            placed = p ∙ omega (arith, d.placed, ap (total size) with-group, total_append size (take j ws) ms);
+            done = d.done ++ ms;
+            all = with-group;
+            row_is = sym (ap (λ (w : Worked). w.row) so);
+            cells_are = sym (ap (λ (w : Worked). w.cells) so);
+            placed = p ∙ omega (arith, d.placed, total_append size d.done ms);
             counted =
-                omega (arith, d.counted, ap (λ l. length row₀ * total cost l) with-group, ap (λ i. length row₀ * i) (total_append cost (take j ws) ms), mul-add (length row₀) (total cost (take j ws)) (total cost ms));
+                omega (arith, d.counted, ap (λ i. length row₀ * i) (total_append cost d.done ms), mul-add (length row₀) (total cost d.done) (total cost ms));
           }

@@ -1,7 +1,7 @@
 -- A loop over the widths of a row list that writes what each box keeps of a row that ends in black places: what is left to be written,
 -- behind what is written, is what the whole list keeps.
 -- Assumes nothing.
-use Rattle.std.proofs.Common.{◌≡◌, ℕ, zero, suc, ◌+◌, ◌-◌, ◌*◌, ◌%◌, ◌^◌, ◌<◌, ◌≤◌, cond, eqb, ltb, ◌⊎◌, List, [], ◌∷◌, ◌++◌, length, take, drop, replicate, sym, refl, ap, ◌∙◌, ap₂, inl, inr, append_assoc, le_trans, le_of_eq, mod-eq_of_lt, mul_assoc, mul_comm, mul-zero, mul-add, le-mul_of_pos_right, add-one, arith, length-append, length-drop, take-append-drop, drop_of_length-le, length-take-le, drop-drop, take_at, drop_at, le-ltb, lt-ltb, eq-eqb, ne_eqb}
+use Rattle.std.proofs.Common.{◌≡◌, ℕ, zero, suc, ◌+◌, ◌-◌, ◌*◌, ◌%◌, ◌^◌, ◌<◌, ◌≤◌, cond, eqb, ltb, ◌⊎◌, List, [], ◌∷◌, ◌++◌, length, get_or, take, drop, replicate, sym, refl, ap, ◌∙◌, ap₂, inl, inr, append_assoc, le_trans, le_of_eq, lt_of_le_of_lt, mod-eq_of_lt, mul_assoc, mul_comm, mul-zero, mul-add, le-mul_of_pos_right, add-one, arith, length-append, length-drop, take-append-drop, drop_of_length-le, length-take-le, drop-drop, drop-cons, take_at, drop_at, le-ltb, lt-ltb, eq-eqb, ne_eqb}
 use lib.ListN.{length-replicate}
 use Rattle.spec.specs.Words.{total, product}
 use Rattle.spec.specs.Recipe.{weight}
@@ -9,6 +9,7 @@ use Rattle.spec.specs.Stream.{box_cells, box_cost, cascade_cells, cascade_cost}
 use Rattle.laws.proofs.Lists.{rest_pos}
 use Rattle.stream.specs.Private.{box_kept, kept}
 use Rattle.stream.proofs.Following.{widths_are}
+use Rattle.stream.proofs.Boxes.{cascade_small}
 
 -- the cells of one box, all the same
 pub box_kept_lem : (n t v : ℕ) → t < 2 ^ 64 → v ≡ cond (eqb n 2) 0 t → box_kept n t ≡ replicate (box_cells n) v
@@ -107,3 +108,30 @@ module _ (ws : List ℕ) (width t : ℕ) (cells₀ : List ℕ) where
       let b = rw e at l.placed in
       let c = rw e at l.counted in
       (omega (arith, mul-zero width), omega arith, sym (a ∙ take-append-drop from cells))
+
+-- The next box of a list that is not too long, on a row that is not too wide: its cells are there, and the count and the totals stay small.
+module _ (ws : List ℕ) (width t : ℕ) (cells₀ : List ℕ) (short : length ws ≤ 48) (narrow : width ≤ 1279) (room : cascade_cells ws ≤ length cells₀)
+    (pos : 0 < weight ws) (light : t * weight ws < 2 ^ 64)
+    (i from sum entering : ℕ) (cells : List ℕ) (l : Keeping ws width t cells₀ i from sum entering cells) (inside : i < length ws) where
+  abbrev width_here : ℕ
+  width_here = get_or ws i 0
+
+  pub more : drop i ws ≡ width_here ∷ drop (suc i) ws
+  more = drop-cons ws i 0 inside
+
+  pub next_inside : from + box_cells width_here ≤ length cells
+  next_inside = omega (arith, next_placed ws width t cells₀ i from sum entering cells l width_here more, l.long)
+
+  pub next_few : sum + width * box_cost width_here ≤ 1279 * 96
+  unfolding cascade_cost
+  next_few =
+      le_trans (omega (arith, next_counted ws width t cells₀ i from sum entering cells l width_here more)) (cascade_small ws width short narrow)
+
+  pub enters_small : entering < 2 ^ 64
+  enters_small = lt_of_le_of_lt (keeping_small ws width t cells₀ i from sum entering cells l (left_pos i ws pos)) light
+
+  pub next_small : entering * width_here < 2 ^ 64
+  next_small =
+      lt_of_le_of_lt
+      (le_trans (le-mul_of_pos_right (entering * width_here) (left_pos (suc i) ws pos)) (le_of_eq (next_weighed ws width t cells₀ i from sum entering cells l width_here more)))
+      light

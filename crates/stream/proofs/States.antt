@@ -1,15 +1,19 @@
 -- The checks of a state and of a call, one after the other.
 -- Assumes nothing.
-use Rattle.std.proofs.Common.{◌≡◌, ℕ, suc, ◌<◌, ◌≤◌, Bool, true, false, cond, ◌||◌, ltb, leb, List, [], ◌∷◌, ◌++◌, sym, refl, ap, true≢false, arith, ltb-false, leb-false}
+use Rattle.std.proofs.Common.{◌≡◌, ℕ, ◌<◌, ◌≤◌, Bool, true, false, ◌||◌, ltb, leb, List, [], ◌∷◌, ◌++◌, Result, Ok, Err, sym, refl, ap, ◌∙◌, true≢false, arith, le-ltb, lt-ltb, ltb-false, leb-false}
+use Rattle.spec.specs.declared.refusal.Refusal.{Refusal}
+use Rattle.spec.specs.declared.refusal.Refusal.TheVariants.{BadState}
 use Rattle.spec.specs.Words.{tab, part, total, product, somewhere}
 use Rattle.spec.specs.Recipe.{Recipe, recipe, widths, order, weight, gain}
 use Rattle.spec.specs.Picture.{full_width_of, full_height_of}
 use Rattle.spec.specs.Stream.{State, stream_cells}
-use Rattle.spec.specs.Refusals.{Check, check, first, either, lent, too_long, zero_width, too_far, too_heavy, bad_side, bad_sides, bad_state, row_not_due, drain_not_due, other_pixels, other_output, too_few_cells, recipe_checks, size_checks, cell_checks, row_checks, drain_checks}
+use Rattle.spec.specs.Refusals.{Check, check, answer, told, number, first, either, lent, too_long, zero_width, too_far, too_heavy, bad_side, bad_sides, bad_state, row_not_due, drain_not_due, other_pixels, other_output, too_few_cells, recipe_checks, size_checks, cell_checks, row_checks, drain_checks}
 use Rattle.laws.proofs.Numbers.{neither}
-use Rattle.laws.proofs.Refusals.{first_none, same_length_so, is_sized}
+use Rattle.laws.proofs.Refusals.{first_front, first_none, same_length_so, is_sized}
 use Rattle.stream.specs.Calls.{state_of, answers, push, drain, ZerosRefused}
-use Rattle.stream.specs.Private.{Ready}
+use Rattle.laws.proofs.Results.{number_not_zero, told_err, told_ok, err_told, ok_told}
+use Rattle.stream.specs.declared.sizes.Sizes.{Sizes}
+use Rattle.stream.specs.Private.{Ready, sizes}
 
 -- the needed cells ask nothing of a height: they are refused as the sides with a height of 1 are
 pub cells_checked : (r : Recipe) (w : ℕ) → size_checks r w 1 ≡ cell_checks r w
@@ -64,14 +68,55 @@ pub first_passed : (b : Bool) (n : ℕ) (cs : List Check) → b ≡ false → fi
 unfolding first check
 first_passed b n cs e = rw e refl
 
--- a test that answered 0, or a number
-pub told_false : (b : Bool) (n : ℕ) → cond b (suc n) 0 ≡ 0 → b ≡ false
-told_false true n e = absurd (omega arith)
-told_false false n e = refl
+-- the sizes for a state, of those for its recipe and sides
+module _ (s : State) where
+  abbrev is : Sizes → Sizes
+  is a = a
 
-pub told_true : (b : Bool) (n : ℕ) → (cond b (suc n) 0 ≡ 0 → ⊥) → b ≡ true
-told_true true n h = refl
-told_true false n h = absurd (h refl)
+  abbrev asked : Result Sizes Refusal → Type 0
+  asked r = told is r ≡ answer (size_checks s.recipe s.width s.height) (sizes s.recipe s.width s.height)
+
+  abbrev gauged : Result Sizes Refusal → Type 0
+  gauged r = told is r ≡ answer (check (bad_state s) 9 ∷ []) (sizes s.recipe s.width s.height)
+
+  -- refused
+  bad : bad_state s ≡ true → gauged (Err BadState)
+  unfolding number
+  bad e = told_err is (check (bad_state s) 9 ∷ []) (sizes s.recipe s.width s.height) BadState (first_holds (bad_state s) 9 [] e)
+
+  pub gauged_refused : (e : Refusal) → asked (Err e) → gauged (Err BadState)
+  gauged_refused e p =
+      bad (bad_refused s _ (err_told is (size_checks s.recipe s.width s.height) (sizes s.recipe s.width s.height) e p) (number_not_zero e))
+
+  module _ (a : Sizes) (p : asked (Ok a)) where
+    known : (first (size_checks s.recipe s.width s.height) ≡ 0) × (a ≡ sizes s.recipe s.width s.height)
+    known = ok_told is (size_checks s.recipe s.width s.height) (sizes s.recipe s.width s.height) a p
+
+    height_is : a.height ≡ full_height_of s.recipe s.height
+    height_is = ap (λ (x : Sizes). x.height) known.1
+
+    pub gauged_late : a.height < s.emitted → gauged (Err BadState)
+    gauged_late h = bad (bad_late s known.0 ∙ lt-ltb (full_height_of s.recipe s.height) s.emitted (omega (arith, height_is)))
+
+    pub gauged_ok : s.emitted ≤ a.height → gauged (Ok a)
+    unfolding first
+    gauged_ok h =
+        let late = bad_late s known.0 ∙ le-ltb (full_height_of s.recipe s.height) s.emitted (omega (arith, height_is)) in
+        told_ok is (check (bad_state s) 9 ∷ []) (sizes s.recipe s.width s.height) a (first_passed (bad_state s) 9 [] late) known.1
+
+  -- the checks of a call after that of its state
+  pub gauged_front : (e : Refusal) → gauged (Err e) → (cs : List Check) → number e ≡ first (check (bad_state s) 9 ∷ cs)
+  gauged_front e p cs =
+      sym (first_front (check (bad_state s) 9 ∷ []) cs (number e) (err_told is (check (bad_state s) 9 ∷ []) (sizes s.recipe s.width s.height) e p) (number_not_zero e))
+
+  module _ (a : Sizes) (p : gauged (Ok a)) where
+    pub gauged_then : (cs : List Check) → first (check (bad_state s) 9 ∷ cs) ≡ first cs
+    gauged_then cs =
+        let q = ok_told is (check (bad_state s) 9 ∷ []) (sizes s.recipe s.width s.height) a p in
+        first_passed (bad_state s) 9 cs (first_none (bad_state s) 8 [] q.0).0
+
+    pub gauged_sizes : a ≡ sizes s.recipe s.width s.height
+    gauged_sizes = (ok_told is (check (bad_state s) 9 ∷ []) (sizes s.recipe s.width s.height) a p).1
 
 -- what is known of a call that is accepted
 module _ (s : State) where

@@ -5,53 +5,32 @@ use Rattle.spec.specs.Words.{tab, total}
 use Rattle.spec.specs.Stream.{box_cells, box_cost, cascade_cells}
 use Rattle.laws.proofs.Lists.{length_tab, get_d_tab, total_append, total_more, total_scale}
 use Rattle.stream.specs.Stages.{Worked, slot_before, column_slot, column_stage, stages}
-use Rattle.stream.specs.Private.{pair_at, pairs_from, rings_from, Apart, Slots, Rings}
+use Rattle.stream.specs.declared.columns.Slot.{Slot}
+use Rattle.stream.specs.Private.{pair_at, pairs_from, rings_from, slot_at, Apart, Slots, Rings, Kept, Acts}
 use Rattle.stream.proofs.Rings.{slots_apart}
 use Rattle.stream.proofs.Boxes.{cost_two, cost_wide, column_one}
-use Rattle.stream.proofs.Groups.{Kept, Keeps, placed, stages_keep, turns, stages_agree}
+use Rattle.stream.proofs.Groups.{Keeps, placed, stages_keep, turns, stages_agree}
 use Rattle.stream.proofs.Acting.{acting, acting_within, pair_made, pair_kept, slot_made, slot_kept, pair_acts, slot_acts}
-use Rattle.stream.proofs.Blocks.{Acts, block, cells_of, block_pair, block_slot, slot_fits, block_acts, block_whole, acts_keep, stages_none, stages_next}
+use Rattle.stream.proofs.Blocks.{block, cells_of, block_pair, block_slot, slot_fits, block_acts, block_whole, acts_keep, stages_none, stages_next}
 
 -- A sweep: the columns below i are worked. f says what is done to the columns from a column on.
 pub record Swept (f : ℕ → List ℕ → List ℕ → Worked) (row₀ own₀ : List ℕ) (i : ℕ) (row own : List ℕ) : Type 0 where
   pub row_is : row ≡ (f 0 (take i row₀) own₀).row ++ drop i row₀
   pub own_is : own ≡ (f 0 (take i row₀) own₀).cells
 
--- f is some stages on the columns from a column on, of w columns and so many cells
-pub record Sweeps (w cells : ℕ) (f : ℕ → List ℕ → List ℕ → Worked) : Type 0 where
-  pub size : ℕ → ℕ
-  pub act : ℕ → ℕ → List ℕ → List ℕ → Worked
-  pub acts : (n : ℕ) → Acts w (size n) (λ i. act i n)
-  pub ns : List ℕ
-  pub room : total size ns ≤ cells
-  pub are : (i : ℕ) (x own : List ℕ) → i + length x ≤ w → length own ≡ cells → f i x own ≡ stages size (act i) ns x own
-
-module _ (w cells : ℕ) (f : ℕ → List ℕ → List ℕ → Worked) (v : Sweeps w cells f) (row₀ own₀ : List ℕ) (wide : length row₀ ≡ w) (long : length own₀ ≡ cells) where
-  abbrev size : ℕ → ℕ
-  size = v.size
-
-  abbrev act : ℕ → ℕ → List ℕ → List ℕ → Worked
-  act = v.act
-
-  abbrev ns : List ℕ
-  ns = v.ns
-
-  abbrev room : total size ns ≤ length own₀
-  room = rw long v.room
-
+module _ (w cells : ℕ) (f : ℕ → List ℕ → List ℕ → Worked) (v : Acts w cells f) (row₀ own₀ : List ℕ) (wide : length row₀ ≡ w) (long : length own₀ ≡ cells) where
   pub swept_none : Swept f row₀ own₀ 0 row₀ own₀
   swept_none =
-      let e = v.are 0 [] own₀ (omega arith) long ∙ stages_none w size act v.acts ns own₀ in
+      let e = v.none own₀ long in
       record { row_is = sym (ap (λ (o : Worked). o.row ++ row₀) e); own_is = sym (ap (λ (o : Worked). o.cells) e) }
 
   -- the lengths of what is worked
-  worked_keeps : (i : ℕ) → i ≤ w → Kept i (length own₀) (f 0 (take i row₀) own₀)
+  worked_keeps : (i : ℕ) → i ≤ w → Kept i cells (f 0 (take i row₀) own₀)
   worked_keeps i h =
       let n : length (take i row₀) ≡ i = length-take-le i row₀ (omega arith) in
-      subst (Kept i (length own₀)) (sym (v.are 0 (take i row₀) own₀ (omega arith) long))
-      (stages_keep size (act 0) i (acts_keep w size act v.acts 0 i (omega arith)) ns (take i row₀) own₀ n room)
+      subst (λ k. Kept k cells (f 0 (take i row₀) own₀)) n (v.keeps 0 (take i row₀) own₀ (omega arith) long)
 
-  pub swept_length : (i : ℕ) (row own : List ℕ) → i ≤ w → Swept f row₀ own₀ i row own → (length row ≡ w) × (length own ≡ length own₀)
+  pub swept_length : (i : ℕ) (row own : List ℕ) → i ≤ w → Swept f row₀ own₀ i row own → (length row ≡ w) × (length own ≡ cells)
   swept_length i row own h s =
       let k = worked_keeps i h in (
         omega (arith, ap length s.row_is, length-append (f 0 (take i row₀) own₀).row (drop i row₀), length-drop i row₀, k.row),
@@ -76,15 +55,8 @@ module _ (w cells : ℕ) (f : ℕ → List ℕ → List ℕ → Worked) (v : Swe
       let here : f i (take m (drop i row)) own ≡ c = ap₂ (λ u v. f i (take m u) v) back s.own_is in
       let both : f 0 (take (i + m) row₀) own₀ ≡ record { row = a.row ++ c.row; cells = c.cells } =
       ap (λ l. f 0 l own₀) (take-add i m row₀)
-      ∙ v.are 0 (x ++ y) own₀ (omega (arith, length-append x y)) long
-      ∙ stages_next w size act v.acts ns x y own₀ (omega arith) room
-      ∙ ap (λ j. record {
-        row = (stages size (act 0) ns x own₀).row ++ (stages size (act j) ns y (stages size (act 0) ns x own₀).cells).row;
-        cells = (stages size (act j) ns y (stages size (act 0) ns x own₀).cells).cells;
-      }) n
-      ∙ ap (λ (o : Worked). record { row = o.row ++ (stages size (act i) ns y o.cells).row; cells = (stages size (act i) ns y o.cells).cells })
-      (sym (v.are 0 x own₀ (omega arith) long))
-      ∙ ap (λ (o : Worked). record { row = a.row ++ o.row; cells = o.cells }) (sym (v.are i y a.cells (omega arith) (k.cells ∙ long))) in
+      ∙ v.next x y own₀ (omega arith) long
+      ∙ ap (λ j. record { row = a.row ++ (f j y a.cells).row; cells = (f j y a.cells).cells }) n in
       record {
         row_is =
             p
@@ -103,6 +75,33 @@ module _ (w cells : ℕ) (f : ℕ → List ℕ → List ℕ → Worked) (v : Swe
         s.row_is ∙ ap₂ (λ u v. (f 0 u own₀).row ++ v) e (drop_of_length-le row₀ short) ∙ append-nil (f 0 row₀ own₀).row,
         s.own_is ∙ ap (λ u. (f 0 u own₀).cells) e,
       )
+
+-- some stages, one after the other, from a column on
+stages_act : (w cells : ℕ) (size : ℕ → ℕ) (act : ℕ → ℕ → List ℕ → List ℕ → Worked) (acts : (n : ℕ) → Acts w (size n) (λ i. act i n)) (ns : List ℕ)
+    → total size ns ≤ cells → (f : ℕ → List ℕ → List ℕ → Worked)
+    → ((i : ℕ) (x own : List ℕ) → i + length x ≤ w → length own ≡ cells → f i x own ≡ stages size (act i) ns x own) → Acts w cells f
+stages_act w cells size act acts ns room f are =
+    record {
+      keeps = keep;
+      none = λ own e. are 0 [] own (omega arith) e ∙ stages_none w size act acts ns own (omega arith);
+      next = next;
+    }
+  where
+    keep : (i : ℕ) (x own : List ℕ) → i + length x ≤ w → length own ≡ cells → Kept (length x) cells (f i x own)
+    keep i x own h e =
+        subst (λ n. Kept (length x) n (f i x own)) e
+        (subst (Kept (length x) (length own)) (sym (are i x own h e))
+        (stages_keep size (act i) (length x) (acts_keep w size act acts i (length x) h) ns x own refl (omega arith)))
+
+    next : (x y own : List ℕ) → length x + length y ≤ w → length own ≡ cells
+        → f 0 (x ++ y) own ≡ record { row = (f 0 x own).row ++ (f (length x) y (f 0 x own).cells).row; cells = (f (length x) y (f 0 x own).cells).cells }
+    next x y own h e =
+        let kept = keep 0 x own (omega arith) e in
+        are 0 (x ++ y) own (omega (arith, length-append x y)) e
+        ∙ stages_next w size act acts ns x y own h (omega arith)
+        ∙ ap (λ (o : Worked). record { row = o.row ++ (stages size (act (length x)) ns y o.cells).row; cells = (stages size (act (length x)) ns y o.cells).cells })
+        (sym (are 0 x own (omega arith) e))
+        ∙ ap (λ (o : Worked). record { row = (f 0 x own).row ++ o.row; cells = o.cells }) (sym (are (length x) y (f 0 x own).cells h kept.cells))
 
 -- the columns that are left after the blocks
 pub length_rest : (row : List ℕ) (from : ℕ) → length (take (length row - from) (drop from row)) ≡ length row - from
@@ -165,16 +164,16 @@ module _ (e w : ℕ) (ns : List ℕ) (two : (s : ℕ) → s < length ns → get_
       pair_size = mul-one w
 
 -- Wider ones, by their slots.
-module _ (w k cells : ℕ) (befores oldests : List ℕ) (g : Rings w k cells befores oldests) where
+module _ (w k cells : ℕ) (slots : List Slot) (g : Rings w k cells slots) where
   pub rings_are : (i : ℕ) (x own : List ℕ) → i + length x ≤ w → length own ≡ cells
-      → rings_from i befores oldests k x own ≡ stages (cells_of w) (block g.emitted w i) g.widths x own
+      → rings_from i slots k x own ≡ stages (cells_of w) (block g.emitted w i) g.widths x own
   unfolding rings_from
   rings_are i x own h d =
       let e = g.emitted in
       let ns = g.widths in
       let room : total (cells_of w) ns ≤ length own = omega (arith, g.room) in
       turns (cells_of w) (block e w i) (length x) (acts_keep w (cells_of w) (block e w) (block_acts e w) i (length x) h)
-      (λ s. column_slot (get_or befores s 0 + i) (get_or oldests s 0 + i)) ns x own refl room
+      (λ s. column_slot ((slot_at slots s).before + i) ((slot_at slots s).oldest + i)) ns x own refl room
       (λ s l y all m long.
       let n = get_or ns s 0 in
       let b = slot_before n e * w in
@@ -182,8 +181,8 @@ module _ (w k cells : ℕ) (befores oldests : List ℕ) (g : Rings w k cells bef
       let t = total (cells_of w) (take s ns) in
       let wide = g.slots.wide s l in
       let inside : t + cells_of w n ≤ length all = omega (arith, part_inside (cells_of w) ns s l) in
-      let p : get_or befores s 0 + i ≡ t + (b + i) = omega (arith, g.slots.before s l) in
-      let q : get_or oldests s 0 + i ≡ t + (o + i) = omega (arith, g.slots.oldest s l) in
+      let p : (slot_at slots s).before + i ≡ t + (b + i) = omega (arith, g.slots.before s l) in
+      let q : (slot_at slots s).oldest + i ≡ t + (o + i) = omega (arith, g.slots.oldest s l) in
       let fits = slot_fits e w n wide in
       ap₂ (λ u v. column_slot u v y all) p q
       ∙ slot_acts (t + (b + i)) (t + (o + i)) y all
@@ -192,7 +191,7 @@ module _ (w k cells : ℕ) (befores oldests : List ℕ) (g : Rings w k cells bef
       k g.counted
 
   -- the slots of each lie inside the cells, apart
-  pub slots_inside : (s : ℕ) → s < k → Apart (get_or befores s 0) (get_or oldests s 0) w cells
+  pub slots_inside : (s : ℕ) → s < k → Apart ((slot_at slots s).before) ((slot_at slots s).oldest) w cells
   slots_inside s h =
       let l : s < length g.widths = omega (arith, g.counted) in
       let e = g.emitted in
@@ -211,31 +210,29 @@ module _ (w k cells : ℕ) (befores oldests : List ℕ) (g : Rings w k cells bef
             (slots_apart n e w (omega arith));
       }
 
-pub pairs_sweep : (w k : ℕ) → Sweeps w (k * w) (λ i. pairs_from i w k)
-pairs_sweep w k =
+  -- so do those for some of the columns
+  pub slots_on : (i m s : ℕ) → i + m ≤ w → s < k → Apart ((slot_at slots s).before + i) ((slot_at slots s).oldest + i) m cells
+  slots_on i m s h l =
+      let all = slots_inside s l in
+      record {
+        before_inside = omega (arith, all.before_inside);
+        oldest_inside = omega (arith, all.oldest_inside);
+        apart = ⊎_elim (λ u. inl (omega arith)) (λ u. inr (omega arith)) all.apart;
+      }
+
+pub pairs_act : (w k cells : ℕ) → cells ≡ k * w → Acts w cells (λ i. pairs_from i w k)
+pairs_act w k cells d =
     let each : ℕ → ℕ = λ s. 2 in
     let ns = tab k each in
     let c : length ns ≡ k = length_tab k each in
     let two : (s : ℕ) → s < length ns → get_or ns s 0 ≡ 2 = λ s h. get_d_tab k each s 0 (omega arith) in
-    record {
-      size = cells_of w;
-      act = block 0 w;
-      acts = block_acts 0 w;
-      ns = ns;
-      room = omega (arith, pairs_room 0 w ns two, ap (λ j. j * w) c);
-      are = pairs_are 0 w ns two k c;
-    }
+    stages_act w cells (cells_of w) (block 0 w) (block_acts 0 w) ns (omega (arith, pairs_room 0 w ns two, ap (λ j. j * w) c)) (λ i. pairs_from i w k)
+    (λ i x own h e. pairs_are 0 w ns two k c i x own h (e ∙ d))
 
-pub rings_sweep : (w k cells : ℕ) (befores oldests : List ℕ) → Rings w k cells befores oldests → Sweeps w cells (λ i. rings_from i befores oldests k)
-rings_sweep w k cells befores oldests g =
-    record {
-      size = cells_of w;
-      act = block g.emitted w;
-      acts = block_acts g.emitted w;
-      ns = g.widths;
-      room = omega (arith, g.room);
-      are = rings_are w k cells befores oldests g;
-    }
+pub rings_act : (w k cells : ℕ) (slots : List Slot) → Rings w k cells slots → Acts w cells (λ i. rings_from i slots k)
+rings_act w k cells slots g =
+    stages_act w cells (cells_of w) (block g.emitted w) (block_acts g.emitted w) g.widths (omega (arith, g.room)) (λ i. rings_from i slots k)
+    (rings_are w k cells slots g)
 
 -- ---- the groups as stages of specs/Stages.antt
 
@@ -270,13 +267,15 @@ module _ (e w : ℕ) where
     )
 
     -- wider ones
-    pub column_rings : (befores oldests row own : List ℕ) → Slots w e ns befores oldests → length row ≡ w → total (cells_of w) ns ≡ length own
-        → (rings_from 0 befores oldests k row own ≡ stages (cells_of w) (column_stage e) ns row own) × (total box_cost ns ≡ k * 2)
-    column_rings befores oldests row own g wide room = (
-      rings_are w k (length own) befores oldests (record { widths = ns; emitted = e; counted = counted; room = room; slots = g }) 0 row own (omega arith) refl
-          ∙ blocks_whole ns row own wide (omega arith),
-      total_same box_cost 2 ns (λ s l. cost_wide (get_or ns s 0) (g.wide s l)) ∙ ap (λ j. j * 2) counted,
-    )
+    pub column_rings : (slots : List Slot) (row own : List ℕ) → Slots w e ns slots → length row ≡ w → total (cells_of w) ns ≡ length own
+        → rings_from 0 slots k row own ≡ stages (cells_of w) (column_stage e) ns row own
+    column_rings slots row own g wide room =
+        rings_are w k (length own) slots (record { widths = ns; emitted = e; counted = counted; room = room; slots = g }) 0 row own (omega arith) refl
+        ∙ blocks_whole ns row own wide (omega arith)
+
+-- what wider ones cost
+pub rings_cost : (ns : List ℕ) → ((s : ℕ) → s < length ns → 2 < get_or ns s 0) → total box_cost ns ≡ length ns * 2
+rings_cost ns wide = total_same box_cost 2 ns (λ s l. cost_wide (get_or ns s 0) (wide s l))
 
 -- the cells of a group
 pub group_size : (w : ℕ) (ns : List ℕ) → total (cells_of w) ns ≡ w * cascade_cells ns

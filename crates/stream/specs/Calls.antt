@@ -1,12 +1,13 @@
 -- What a start, a row call and a drain answer and leave in what they were lent, for every argument.
-use Rattle.std.specs.Prelude.{◌≡◌, ℕ, ◌+◌, List, [], ◌++◌, length, drop, replicate}
+use Rattle.std.specs.Prelude.{◌≡◌, ℕ, ◌+◌, List, [], ◌++◌, length, drop, replicate, Result, Ok, Err}
+use Rattle.spec.specs.declared.refusal.Refusal.{Refusal}
 use Rattle.spec.specs.declared.Filter.{Filter}
 use Rattle.spec.specs.Recipe.{recipe, no_filter}
 use Rattle.spec.specs.Stream.{State as SpecState, state_with, stream_cells, row_cost}
-use Rattle.spec.specs.Refusals.{Check, first, lent, start_checks, row_checks, drain_checks}
+use Rattle.spec.specs.Refusals.{Check, first, lent, number, start_checks, row_checks, drain_checks}
 use Rattle.stream.specs.declared.calls.State.{State}
-use Rattle.stream.specs.declared.calls.Started.{Started}
 use Rattle.stream.specs.declared.calls.Stepped.{Stepped}
+use Rattle.stream.specs.declared.calls.Refused.{Refused}
 use Rattle.stream.specs.Stages.{worked, entering}
 
 -- the state that a struct holds
@@ -23,14 +24,15 @@ zeros = state_at no_filter 0 0 0
 
 -- ---- the start
 
--- its number, its state, and what the cells then hold
+-- its number, its state, of zeros on a refusal, and what the cells then hold
 pub record Began : Type 0 where
   pub number : ℕ
   pub state : State
   pub cells : List ℕ
 
-unfoldable pub began : Started → List ℕ → Began
-began a cells = record { number = a.refusal; state = a.state; cells = cells }
+unfoldable pub began : Result State Refusal → List ℕ → Began
+began (Ok s) cells = record { number = 0; state = s; cells = cells }
+began (Err e) cells = record { number = number e; state = zeros; cells = cells }
 
 -- accepted: no row is yielded yet, and exactly the needed cells are zero
 unfoldable pub started : Filter → ℕ → ℕ → List ℕ → Began
@@ -49,7 +51,7 @@ start f w h cells =
 
 -- ---- a row call and a drain
 
--- the number, the state, the count of additions and subtractions, and what the output and the cells then hold
+-- the number, the state, the count of additions and subtractions, 0 on a refusal, and what the output and the cells then hold
 pub record Called : Type 0 where
   pub number : ℕ
   pub state : State
@@ -57,8 +59,9 @@ pub record Called : Type 0 where
   pub out : List ℕ
   pub cells : List ℕ
 
-unfoldable pub called : Stepped → List ℕ → List ℕ → Called
-called a out cells = record { number = a.refusal; state = a.state; count = a.count; out = out; cells = cells }
+unfoldable pub called : Result Stepped Refused → List ℕ → List ℕ → Called
+called (Ok a) out cells = record { number = 0; state = a.state; count = a.count; out = out; cells = cells }
+called (Err e) out cells = record { number = number e.refusal; state = e.state; count = 0; out = out; cells = cells }
 
 -- one row more is yielded
 unfoldable pub next : State → State

@@ -1,30 +1,19 @@
--- Words for the contracts of private functions; no exported contract uses them. What they tell of sizes: a number, or 0, the grown
--- sides and the needed cells. What a row that ends in black places leaves in the cells of the row list. And stages of
--- the column list that are worked together: their slots, and what they make of some columns.
-use Rattle.std.specs.Prelude.{◌≡◌, ℕ, zero, suc, ◌+◌, ◌*◌, ◌%◌, ◌^◌, ◌<◌, ◌≤◌, cond, ◌⊎◌, List, [], ◌∷◌, ◌++◌, length, take, drop, replicate, ◌==◌, nat_lt, slice_index}
+-- Words for the contracts of private functions; no exported contract uses them. The sizes of buffers. What a row that ends in black
+-- places leaves in the cells of the row list. And stages of the column list that are worked together: their slots, and what they make
+-- of some columns.
+use Rattle.std.specs.Prelude.{◌≡◌, ℕ, zero, suc, ◌+◌, ◌*◌, ◌%◌, ◌^◌, ◌<◌, ◌≤◌, cond, ◌⊎◌, List, [], ◌∷◌, ◌++◌, length, take, drop, replicate, ◌==◌, nat_lt, slice_index, slice_index_or}
 use Rattle.spec.specs.Words.{tab, total}
 use Rattle.spec.specs.Recipe.{Recipe}
 use Rattle.spec.specs.Picture.{full_width_of, full_height_of}
 use Rattle.spec.specs.Stream.{State, box_cells, stream_cells}
-use Rattle.spec.specs.Refusals.{first, size_checks, bad_state}
+use Rattle.spec.specs.Refusals.{first, size_checks}
 use Rattle.stream.specs.declared.sizes.Sizes.{Sizes}
+use Rattle.stream.specs.declared.columns.Slot.{Slot}
 use Rattle.stream.specs.Stages.{Worked, plus, slot_before, column_slot}
 
--- the sizes, where the number is 0
-pub record Told (r : Recipe) (w h : ℕ) (a : Sizes) : Type 0 where
-  pub width : a.width ≡ full_width_of r w
-  pub height : a.height ≡ full_height_of r h
-  pub cells : a.cells ≡ stream_cells r w
-
--- for a recipe and sides
-pub record Sized (r : Recipe) (w h : ℕ) (a : Sizes) : Type 0 where
-  pub number : a.refusal ≡ first (size_checks r w h)
-  pub told : a.refusal ≡ 0 → Told r w h a
-
--- for a state
-pub record Gauged (s : State) (a : Sizes) : Type 0 where
-  pub number : a.refusal ≡ cond (bad_state s) 9 0
-  pub told : a.refusal ≡ 0 → Told s.recipe s.width s.height a
+-- the grown sides and the needed cells
+abbrev pub sizes : Recipe → ℕ → ℕ → Sizes
+sizes r w h = record { width = full_width_of r w; height = full_height_of r h; cells = stream_cells r w }
 
 -- a state and lengths of output and cells that none of 9, 7 and 8 refuses, with a row still to come
 pub record Ready (s : State) (out cells : ℕ) : Type 0 where
@@ -64,9 +53,17 @@ pair_at at x cells =
 unfoldable pub pairs_from : ℕ → ℕ → ℕ → List ℕ → List ℕ → Worked
 pairs_from column w k = in_turn (λ s. pair_at (s * w + column)) k
 
+-- no slot
+abbrev pub no_slot : Slot
+no_slot = record { before = 0; oldest = 0 }
+
+-- the slots of the s-th of some stages
+abbrev pub slot_at : List Slot → ℕ → Slot
+slot_at slots s = slice_index_or slots s no_slot
+
 -- k wider stages, by the first cells of their two slots
-unfoldable pub rings_from : ℕ → List ℕ → List ℕ → ℕ → List ℕ → List ℕ → Worked
-rings_from column befores oldests k = in_turn (λ s. column_slot (slice_index befores s + column) (slice_index oldests s + column)) k
+unfoldable pub rings_from : ℕ → List Slot → ℕ → List ℕ → List ℕ → Worked
+rings_from column slots k = in_turn (λ s. column_slot ((slot_at slots s).before + column) ((slot_at slots s).oldest + column)) k
 
 -- two slots of n columns, inside so many cells and apart
 pub record Apart (before oldest n cells : ℕ) : Type 0 where
@@ -75,23 +72,38 @@ pub record Apart (before oldest n cells : ℕ) : Type 0 where
   pub apart : (before + n ≤ oldest) ⊎ (oldest + n ≤ before)
 
 -- the first cells of the two slots of wider stages, one after the other, at the row after e others
-pub record Slots (w e : ℕ) (ns befores oldests : List ℕ) : Type 0 where
+pub record Slots (w e : ℕ) (ns : List ℕ) (slots : List Slot) : Type 0 where
   pub wide : (s : ℕ) → s < length ns → 2 < slice_index ns s
-  pub before : (s : ℕ) → s < length ns → slice_index befores s ≡ total (λ n. w * box_cells n) (take s ns) + slot_before (slice_index ns s) e * w
-  pub oldest : (s : ℕ) → s < length ns → slice_index oldests s ≡ total (λ n. w * box_cells n) (take s ns) + e % slice_index ns s * w
+  pub before : (s : ℕ) → s < length ns → (slot_at slots s).before ≡ total (λ n. w * box_cells n) (take s ns) + slot_before (slice_index ns s) e * w
+  pub oldest : (s : ℕ) → s < length ns → (slot_at slots s).oldest ≡ total (λ n. w * box_cells n) (take s ns) + e % slice_index ns s * w
 
 -- k such stages, of some widths and at some row, which have all of so many cells
-pub record Rings (w k cells : ℕ) (befores oldests : List ℕ) : Type 0 where
+pub record Rings (w k cells : ℕ) (places : List Slot) : Type 0 where
   pub widths : List ℕ
   pub emitted : ℕ
   pub counted : length widths ≡ k
   pub room : total (λ n. w * box_cells n) widths ≡ cells
-  pub slots : Slots w emitted widths befores oldests
+  pub slots : Slots w emitted widths places
 
--- the first k of some widths, which are worked together: a width below 2 alone, at most eight of width 2, at most three wider ones
-pub record Run (ns : List ℕ) (k : ℕ) : Type 0 where
-  pub some : 0 < k
-  pub inside : k ≤ length ns
-  pub one : slice_index ns 0 < 2 → k ≡ 1
-  pub twos : slice_index ns 0 ≡ 2 → (k ≤ 8) × ((s : ℕ) → s < k → slice_index ns s ≡ 2)
-  pub wider : 2 < slice_index ns 0 → (k ≤ 3) × ((s : ℕ) → s < k → 2 < slice_index ns s)
+-- the widths of a group: one below 2 alone, at most eight of width 2, or at most three wider ones
+pub record Group (ns : List ℕ) : Type 0 where
+  pub some : 0 < length ns
+  pub one : slice_index ns 0 < 2 → length ns ≡ 1
+  pub twos : slice_index ns 0 ≡ 2 → (length ns ≤ 8) × ((s : ℕ) → s < length ns → slice_index ns s ≡ 2)
+  pub wider : 2 < slice_index ns 0 → (length ns ≤ 3) × ((s : ℕ) → s < length ns → 2 < slice_index ns s)
+
+-- work that keeps the lengths, of rows of m values
+pub record Kept (m size : ℕ) (done : Worked) : Type 0 where
+  pub row : length done.row ≡ m
+  pub cells : length done.cells ≡ size
+
+-- Of w columns and so many cells, what f does from a column on: on some columns, and then on those next to them, is on all of these.
+pub record Acts (w size : ℕ) (f : ℕ → List ℕ → List ℕ → Worked) : Type 0 where
+  pub keeps : (i : ℕ) (x own : List ℕ) → i + length x ≤ w → length own ≡ size → Kept (length x) size (f i x own)
+  pub none : (own : List ℕ) → length own ≡ size → f 0 [] own ≡ record { row = []; cells = own }
+  pub next : (x y own : List ℕ) → length x + length y ≤ w → length own ≡ size
+      → f 0 (x ++ y) own
+      ≡ record {
+        row = (f 0 x own).row ++ (f (length x) y (f 0 x own).cells).row;
+        cells = (f (length x) y (f 0 x own).cells).cells;
+      }

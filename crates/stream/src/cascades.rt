@@ -31,8 +31,7 @@ pub(crate) fn work(
         × (row.new ≡ made.row) × (cells.new ≡ made.cells) }
 {
     let total = along(filter.rows, pixels, row);
-    let first = keep(filter.rows, total, row.len(), cells);
-    let from = first.cells;
-    let to = cells.len();
-    first.count + down(filter.columns, emitted, row, &mut cells[from..to])
+    let first = keep(filter.rows.boxes(), total, row.len(), cells);
+    let columns = filter.columns.boxes();
+    first.count + down(columns, emitted, row, &mut cells[first.cells..])
 }

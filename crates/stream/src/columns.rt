@@ -1,31 +1,77 @@
 // The column list on a row. Up to eight stages of width 2 that follow each other, or up to three wider ones,
 // are a group, and a group is worked in one sweep over the row: for each block of eight columns the stages
 // in turn, the values in an array.
-ghost use Rattle.std.specs.Prelude.{◌≡◌, ℕ, ◌+◌, ◌-◌, ◌*◌, ◌<◌, ◌≤◌, ◌++◌, length, take, drop, if◌then◌else◌, nat_eq, slice_index};
+ghost use Rattle.std.specs.Prelude.{◌≡◌, ℕ, ◌+◌, ◌-◌, ◌*◌, ◌<◌, ◌≤◌, ◌++◌, List, length, take, drop, if◌then◌else◌, nat_eq, slice_index};
 ghost use Rattle.spec.specs.Words.{tab};
-ghost use Rattle.spec.specs.Recipe.{widths};
 ghost use Rattle.spec.specs.Stream.{box_cells, cascade_cells, cascade_cost};
-ghost use Rattle.stream.specs.Stages.{plus, minus, column_pair, column_slot, column_stage, stages};
-ghost use Rattle.stream.specs.Private.{pairs_from, rings_from, Apart, Slots, Rings, Run};
+ghost use Rattle.stream.specs.Stages.{Worked, plus, minus, column_pair, column_slot, column_stage, stages};
+ghost use Rattle.stream.specs.Private.{pairs_from, rings_from, Acts, Apart, Slots, Rings, Group};
 
-use crate::sizes::box_cells;
-use filter::width_at;
-use spec::Cascade;
+use crate::sizes::cascade_cells;
 
-// A difference modulo 2^64.
-fn less(a: u64, b: u64) -> u64
-    ensures { result ≡ minus a b }
-{
-    std::num::wrapping_sub_u64(a, b)
+// Stages that are worked together, on the columns of a row of so many and on cells of their own.
+trait Stages {
+    ghost width: { Self → ℕ };
+
+    ghost has: { Self → ℕ → Type 0 };
+
+    ghost made: { Self → ℕ → List ℕ → List ℕ → Worked };
+
+    // In turn, on at most eight columns from a column on.
+    fn work(&self, from: usize, x: &mut [u64], own: &mut [u64])
+        requires { has self.now (length own.old) × (length x.old ≤ 8) × (from + length x.old ≤ width self.now) }
+        ensures { let done = made self.now from x.old own.old in
+            (x.new ≡ done.row) × (own.new ≡ done.cells) };
 }
 
-// One slice over another of its length.
-fn copy_values(from: &[u64], to: &mut [u64])
-    requires { length from.now ≡ length to.old }
-    ensures { to.new ≡ from.now }
-{
-    for k in 0..to.len() {
-        to[k] = from[k];
+// Stages of width 2.
+#[derive(Drop)]
+struct Pairs {
+    count: usize,
+    width: usize,
+}
+
+impl Stages for Pairs {
+    ghost width = { λ s. s.width };
+
+    ghost has = { λ s cells. (s.count ≤ 8) × (s.width ≤ 1279) × (cells ≡ s.count * s.width) };
+
+    ghost made = { λ s from. pairs_from from s.width s.count };
+
+    fn work(&self, from: usize, x: &mut [u64], own: &mut [u64]) {
+        for s in 0..self.count {
+            let at = s * self.width + from;
+            let to = at + x.len();
+            pair(x, &mut own[at..to]);
+        }
+    }
+}
+
+// The first cells of two slots of a stage of width 3 or more: that of the row before, and the oldest.
+#[derive(Clone, Copy)]
+struct Slot {
+    before: usize,
+    oldest: usize,
+}
+
+// Wider stages.
+#[derive(Drop)]
+struct Rings<const N: usize> {
+    slots: [Slot; N],
+    width: usize,
+}
+
+impl<const N: usize> Stages for Rings<N> {
+    ghost width = { λ s. s.width };
+
+    ghost has = { λ s cells. Rings s.width N cells s.slots };
+
+    ghost made = { λ s from. rings_from from s.slots N };
+
+    fn work(&self, from: usize, x: &mut [u64], own: &mut [u64]) {
+        for slot in &self.slots {
+            ring(x, slot.before + from, slot.oldest + from, own);
+        }
     }
 }
 
@@ -35,58 +81,11 @@ fn pair(x: &mut [u64], own: &mut [u64])
     ensures { let made = column_pair x.old own.old in
         (x.new ≡ made.row) × (own.new ≡ made.cells) }
 {
-    for k in 0..x.len() {
-        let below = x[k];
-        x[k] = std::num::wrapping_add_u64(below, own[k]);
+    for (k, value) in x.iter_mut().enumerate() {
+        let below = *value;
+        *value = below.wrapping_add(own[k]);
         own[k] = below;
     }
-}
-
-// The stages of a group of width 2 in turn, on the columns from `from` on.
-fn pairs_on(x: &mut [u64], count: usize, from: usize, width: usize, own: &mut [u64])
-    requires { (count ≤ 8) × (width ≤ 1279) × (from + length x.old ≤ width) × (length own.old ≡ count * width) }
-    ensures { let made = pairs_from from width count x.old own.old in
-        (x.new ≡ made.row) × (own.new ≡ made.cells) }
-{
-    let mut at = from;
-    for s in 0..count {
-        let to = at + x.len();
-        pair(x, &mut own[at..to]);
-        at += width;
-    }
-}
-
-// A block of eight columns.
-fn pair_block(count: usize, from: usize, row: &mut [u64], own: &mut [u64])
-    requires { (count ≤ 8) × (length row.old ≤ 1279) × (from + 8 ≤ length row.old)
-        × (length own.old ≡ count * length row.old) }
-    ensures { let old = row.old in
-        let made = pairs_from from (length old) count (take 8 (drop from old)) own.old in
-        (row.new ≡ take from old ++ (made.row ++ drop (from + 8) old)) × (own.new ≡ made.cells) }
-{
-    let width = row.len();
-    let z: usize = 0;
-    let few: usize = 8;
-    let to = from + few;
-    let mut x = [0u64; 8];
-    copy_values(&row[from..to], &mut x[z..few]);
-    pairs_on(&mut x[z..few], count, from, width, own);
-    copy_values(&x[z..few], &mut row[from..to]);
-}
-
-// A group of width 2.
-fn pairs(count: usize, row: &mut [u64], own: &mut [u64])
-    requires { (count ≤ 8) × (length row.old ≤ 1279) × (length own.old ≡ count * length row.old) }
-    ensures { let made = pairs_from 0 (length row.old) count row.old own.old in
-        (row.new ≡ made.row) × (own.new ≡ made.cells) }
-{
-    let mut from: usize = 0;
-    while 8 <= row.len() - from {
-        pair_block(count, from, row, own);
-        from += 8;
-    }
-    let width = row.len();
-    pairs_on(&mut row[from..width], count, from, width, own);
 }
 
 // The totals with this row.
@@ -95,215 +94,92 @@ fn total(x: &[u64], before: &[u64], totals: &mut [u64])
     ensures { totals.new
         ≡ tab (length x.now) (λ j. plus (slice_index before.now j) (slice_index x.now j)) }
 {
-    for k in 0..x.len() {
-        totals[k] = std::num::wrapping_add_u64(before[k], x[k]);
+    for (k, total) in totals.iter_mut().enumerate() {
+        *total = before[k].wrapping_add(x[k]);
     }
 }
 
-// What is left of the totals, less the oldest, to which they give way.
-fn settle(x: &mut [u64], oldest: &mut [u64], totals: &[u64])
-    requires { (length oldest.old ≡ length x.old) × (length totals.now ≡ length x.old) }
-    ensures { (x.new ≡ tab (length x.old) (λ j. minus (slice_index totals.now j) (slice_index oldest.old j)))
-        × (oldest.new ≡ totals.now) }
+// What is left of the totals, less the oldest.
+fn settle(x: &mut [u64], oldest: &[u64], totals: &[u64])
+    requires { (length oldest.now ≡ length x.old) × (length totals.now ≡ length x.old) }
+    ensures { x.new ≡ tab (length x.old) (λ j. minus (slice_index totals.now j) (slice_index oldest.now j)) }
 {
-    for k in 0..x.len() {
-        x[k] = less(totals[k], oldest[k]);
-        oldest[k] = totals[k];
+    for (k, value) in x.iter_mut().enumerate() {
+        *value = totals[k].wrapping_sub(oldest[k]);
     }
 }
 
-// A width of 3 or more, by the first cells of its two slots for these columns.
+// A width of 3 or more, by the first cells of its two slots for these columns. The oldest totals give way to
+// those with this row.
 fn ring(x: &mut [u64], before: usize, oldest: usize, own: &mut [u64])
     requires { (length x.old ≤ 8) × Apart before oldest (length x.old) (length own.old) }
     ensures { let made = column_slot before oldest x.old own.old in
         (x.new ≡ made.row) × (own.new ≡ made.cells) }
 {
-    let z: usize = 0;
     let few = x.len();
     let end = before + few;
     let stop = oldest + few;
     let mut totals = [0u64; 8];
-    total(x, &own[before..end], &mut totals[z..few]);
-    settle(x, &mut own[oldest..stop], &totals[z..few]);
-}
-
-// The stages of a group of wider ones in turn, on the columns from `from` on.
-fn rings_on(
-    x: &mut [u64],
-    count: usize,
-    from: usize,
-    befores: &[usize; 3],
-    oldests: &[usize; 3],
-    own: &mut [u64],
-)
-    requires { (count ≤ 3) × (length x.old ≤ 8)
-        × ((s : ℕ) → s < count → Apart (slice_index befores.now s + from) (slice_index oldests.now s + from) (length x.old) (length own.old)) }
-    ensures { let made = rings_from from befores.now oldests.now count x.old own.old in
-        (x.new ≡ made.row) × (own.new ≡ made.cells) }
-{
-    for s in 0..count {
-        let before = befores[s] + from;
-        let oldest = oldests[s] + from;
-        ring(x, before, oldest, own);
-    }
+    total(x, &own[before..end], &mut totals[..few]);
+    settle(x, &own[oldest..stop], &totals[..few]);
+    own[oldest..stop].copy_from_slice(&totals[..few]);
 }
 
 // A block of eight columns.
-fn ring_block(
-    count: usize,
-    from: usize,
-    befores: &[usize; 3],
-    oldests: &[usize; 3],
-    row: &mut [u64],
-    own: &mut [u64],
-)
-    requires { (count ≤ 3) × (from + 8 ≤ length row.old)
-        × ((s : ℕ) → s < count → Apart (slice_index befores.now s) (slice_index oldests.now s) (length row.old) (length own.old)) }
+fn block<S: Stages>(stages: &S, from: usize, row: &mut [u64], own: &mut [u64])
+    requires { S.has stages.now (length own.old) × (length row.old ≡ S.width stages.now) × (from + 8 ≤ length row.old) }
     ensures { let old = row.old in
-        let made = rings_from from befores.now oldests.now count (take 8 (drop from old)) own.old in
-        (row.new ≡ take from old ++ (made.row ++ drop (from + 8) old)) × (own.new ≡ made.cells) }
+        let done = S.made stages.now from (take 8 (drop from old)) own.old in
+        (row.new ≡ take from old ++ (done.row ++ drop (from + 8) old)) × (own.new ≡ done.cells) }
 {
-    let z: usize = 0;
-    let few: usize = 8;
-    let to = from + few;
+    let to = from + 8;
     let mut x = [0u64; 8];
-    copy_values(&row[from..to], &mut x[z..few]);
-    rings_on(&mut x[z..few], count, from, befores, oldests, own);
-    copy_values(&x[z..few], &mut row[from..to]);
+    x.copy_from_slice(&row[from..to]);
+    stages.work(from, &mut x, own);
+    row[from..to].copy_from_slice(&x);
 }
 
-// A group of one or two wider ones.
-fn rings(count: usize, befores: &[usize; 3], oldests: &[usize; 3], row: &mut [u64], own: &mut [u64])
-    requires { (count ≤ 3) × Rings (length row.old) count (length own.old) befores.now oldests.now }
-    ensures { let made = rings_from 0 befores.now oldests.now count row.old own.old in
-        (row.new ≡ made.row) × (own.new ≡ made.cells) }
+// A group on a row, a block of columns at a time.
+fn sweep<S: Stages>(stages: &S, row: &mut [u64], own: &mut [u64])
+    requires { S.has stages.now (length own.old) × (length row.old ≡ S.width stages.now)
+        × Acts (length row.old) (length own.old) (S.made stages.now) }
+    ensures { let done = S.made stages.now 0 row.old own.old in
+        (row.new ≡ done.row) × (own.new ≡ done.cells) }
 {
-    let mut from: usize = 0;
-    while 8 <= row.len() - from {
-        ring_block(count, from, befores, oldests, row, own);
-        from += 8;
+    let blocks = row.len() / 8;
+    for k in 0..blocks {
+        block(stages, 8 * k, row, own);
     }
-    let width = row.len();
-    rings_on(&mut row[from..width], count, from, befores, oldests, own);
+    let from = 8 * blocks;
+    stages.work(from, &mut row[from..], own);
 }
 
-// Three wider stages in turn, written out: a loop over them takes a third more time.
-fn three_on(x: &mut [u64], from: usize, befores: &[usize; 3], oldests: &[usize; 3], own: &mut [u64])
-    requires { (length x.old ≤ 8)
-        × ((s : ℕ) → s < 3 → Apart (slice_index befores.now s + from) (slice_index oldests.now s + from) (length x.old) (length own.old)) }
-    ensures { let made = rings_from from befores.now oldests.now 3 x.old own.old in
-        (x.new ≡ made.row) × (own.new ≡ made.cells) }
+// How many widths at the front lie between two bounds; not more than `longest`.
+fn alike(widths: &[u8], least: u8, most: u8, longest: usize) -> usize
+    ensures { (result ≤ longest) × (result ≤ length widths.now)
+        × ((s : ℕ) → s < result → (least ≤ slice_index widths.now s) × (slice_index widths.now s ≤ most))
+        × (0 < longest → 0 < length widths.now → least ≤ slice_index widths.now 0 → slice_index widths.now 0 ≤ most → 0 < result) }
 {
-    let before = befores[0] + from;
-    let oldest = oldests[0] + from;
-    ring(x, before, oldest, own);
-    let next_before = befores[1] + from;
-    let next_oldest = oldests[1] + from;
-    ring(x, next_before, next_oldest, own);
-    let last_before = befores[2] + from;
-    let last_oldest = oldests[2] + from;
-    ring(x, last_before, last_oldest, own);
-}
-
-// A block of eight columns.
-fn three_block(
-    from: usize,
-    befores: &[usize; 3],
-    oldests: &[usize; 3],
-    row: &mut [u64],
-    own: &mut [u64],
-)
-    requires { (from + 8 ≤ length row.old)
-        × ((s : ℕ) → s < 3 → Apart (slice_index befores.now s) (slice_index oldests.now s) (length row.old) (length own.old)) }
-    ensures { let old = row.old in
-        let made = rings_from from befores.now oldests.now 3 (take 8 (drop from old)) own.old in
-        (row.new ≡ take from old ++ (made.row ++ drop (from + 8) old)) × (own.new ≡ made.cells) }
-{
-    let z: usize = 0;
-    let few: usize = 8;
-    let to = from + few;
-    let mut x = [0u64; 8];
-    copy_values(&row[from..to], &mut x[z..few]);
-    three_on(&mut x[z..few], from, befores, oldests, own);
-    copy_values(&x[z..few], &mut row[from..to]);
-}
-
-// A group of three wider ones.
-fn three_rings(befores: &[usize; 3], oldests: &[usize; 3], row: &mut [u64], own: &mut [u64])
-    requires { Rings (length row.old) 3 (length own.old) befores.now oldests.now }
-    ensures { let made = rings_from 0 befores.now oldests.now 3 row.old own.old in
-        (row.new ≡ made.row) × (own.new ≡ made.cells) }
-{
-    let mut from: usize = 0;
-    while 8 <= row.len() - from {
-        three_block(from, befores, oldests, row, own);
-        from += 8;
-    }
-    let width = row.len();
-    rings_on(&mut row[from..width], 3, from, befores, oldests, own);
-}
-
-// A group of wider ones.
-fn wider(count: usize, befores: &[usize; 3], oldests: &[usize; 3], row: &mut [u64], own: &mut [u64])
-    requires { (count ≤ 3) × Rings (length row.old) count (length own.old) befores.now oldests.now }
-    ensures { let made = rings_from 0 befores.now oldests.now count row.old own.old in
-        (row.new ≡ made.row) × (own.new ≡ made.cells) }
-{
-    if count == 3 {
-        three_rings(befores, oldests, row, own);
-    } else {
-        rings(count, befores, oldests, row, own);
-    }
-}
-
-// How many widths from a place on, the first of them included, lie between two bounds; not more than
-// `longest`.
-fn alike(list: Cascade, from: usize, least: u8, most: u8, longest: usize) -> usize
-    requires { (0 < least) × (0 < longest) × (longest ≤ 8) × (from < list.count) × (list.count ≤ 48)
-        × (least ≤ slice_index (widths list) from) × (slice_index (widths list) from ≤ most) }
-    ensures { (0 < result) × (result ≤ longest) × (from + result ≤ list.count)
-        × ((s : ℕ) → s < result → (least ≤ slice_index (widths list) (from + s)) × (slice_index (widths list) (from + s) ≤ most)) }
-{
-    let mut k: usize = 1;
-    while k < longest {
-        let n = width_at(list.count, &list.widths, from + k);
-        if n < least {
-            return k;
+    let front = &widths[..widths.len().min(longest)];
+    for (s, &n) in front.iter().enumerate() {
+        if n < least || most < n {
+            return s;
         }
-        if most < n {
-            return k;
-        }
-        k += 1;
     }
-    k
+    front.len()
 }
 
-// How many stages from one on are worked together: a width below 2 alone, at most eight of width 2, or at
+// How many widths at the front are worked together: a width below 2 alone, at most eight of width 2, or at
 // most three wider ones.
-fn run(list: Cascade, from: usize) -> usize
-    requires { (from < list.count) × (list.count ≤ 48) }
-    ensures { Run (drop from (widths list)) result }
+fn run(widths: &[u8]) -> usize
+    requires { 0 < length widths.now }
+    ensures { (result ≤ length widths.now) × Group (take result widths.now) }
 {
-    let n = width_at(list.count, &list.widths, from);
-    if n < 2 {
-        return 1;
+    match widths[0] {
+        0 | 1 => 1,
+        2 => alike(widths, 2, 2, 8),
+        _ => alike(widths, 3, 255, 3),
     }
-    if n == 2 {
-        return alike(list, from, 2, 2, 8);
-    }
-    alike(list, from, 3, 255, 3)
-}
-
-// The cells of a group for one column.
-fn group_cells(list: Cascade, from: usize, count: usize) -> usize
-    requires { (from + count ≤ list.count) × (list.count ≤ 48) }
-    ensures { (result ≡ cascade_cells (take count (drop from (widths list)))) × (result ≤ 255 * count) }
-{
-    let mut cells: usize = 0;
-    for s in 0..count {
-        cells += box_cells(width_at(list.count, &list.widths, from + s));
-    }
-    cells
 }
 
 // The slot before the one of a row, in a ring of n.
@@ -314,82 +190,98 @@ fn slot_before(slot: usize, n: usize) -> usize
     if slot == 0 { n - 1 } else { slot - 1 }
 }
 
-// The first cells of the two slots of each stage of a group of wider ones.
-#[derive(Drop)]
-struct Places {
-    befores: [usize; 3],
-    oldests: [usize; 3],
-}
-
-// The slots of a group of wider ones, at the row after `emitted` others.
-fn slots(list: Cascade, from: usize, count: usize, emitted: usize, width: usize) -> Places
-    requires { (count ≤ 3) × (from + count ≤ list.count) × (list.count ≤ 48) × (width ≤ 1279)
-        × ((s : ℕ) → s < count → 2 < slice_index (drop from (widths list)) s) }
-    ensures { Slots width emitted (take count (drop from (widths list))) result.befores result.oldests }
+// The slots of wider stages, at the row after `emitted` others.
+fn slots<const N: usize>(widths: &[u8], emitted: usize, width: usize) -> [Slot; N]
+    requires { (N ≤ 3) × (length widths.now ≡ N) × (width ≤ 1279) × ((s : ℕ) → s < N → 2 < slice_index widths.now s) }
+    ensures { Slots width emitted widths.now result }
 {
-    let mut befores = [0usize; 3];
-    let mut oldests = [0usize; 3];
-    let mut start: usize = 0;
-    for s in 0..count {
-        let n = width_at(list.count, &list.widths, from + s) as usize;
+    let mut slots = [Slot {
+        before: 0,
+        oldest: 0,
+    }; N];
+    let mut start = 0;
+    for (s, &box_width) in widths.iter().enumerate() {
+        let n = usize::from(box_width);
         let slot = emitted % n;
-        befores[s] = start + slot_before(slot, n) * width;
-        oldests[s] = start + slot * width;
+        slots[s] = Slot {
+            before: start + slot_before(slot, n) * width,
+            oldest: start + slot * width,
+        };
         start += n * width;
     }
-    Places { befores, oldests }
+    slots
+}
+
+// A group of N wider stages, at the row after `emitted` others.
+fn wide<const N: usize>(widths: &[u8], emitted: usize, row: &mut [u64], own: &mut [u64])
+    requires { (N ≤ 3) × (length widths.now ≡ N) × (length row.old ≤ 1279) × ((s : ℕ) → s < N → 2 < slice_index widths.now s)
+        × (length own.old ≡ length row.old * cascade_cells widths.now) }
+    ensures { let w = length row.old in
+        let made = stages (λ n. w * box_cells n) (column_stage emitted) widths.now row.old own.old in
+        (row.new ≡ made.row) × (own.new ≡ made.cells) }
+{
+    let width = row.len();
+    let slots = slots::<N>(widths, emitted, width);
+    sweep(&Rings { slots, width }, row, own);
+}
+
+// A group of wider stages, whose number is known to the loop over them.
+fn wider(widths: &[u8], emitted: usize, row: &mut [u64], own: &mut [u64])
+    requires { (length row.old ≤ 1279) × (0 < length widths.now) × (length widths.now ≤ 3)
+        × ((s : ℕ) → s < length widths.now → 2 < slice_index widths.now s)
+        × (length own.old ≡ length row.old * cascade_cells widths.now) }
+    ensures { let w = length row.old in
+        let made = stages (λ n. w * box_cells n) (column_stage emitted) widths.now row.old own.old in
+        (row.new ≡ made.row) × (own.new ≡ made.cells) }
+{
+    match widths.len() {
+        1 => wide::<1>(widths, emitted, row, own),
+        2 => wide::<2>(widths, emitted, row, own),
+        _ => wide::<3>(widths, emitted, row, own),
+    }
 }
 
 // A group of stages, at the row after `emitted` others. Returns its count of additions and subtractions.
-fn group(
-    list: Cascade,
-    from: usize,
-    count: usize,
-    emitted: usize,
-    row: &mut [u64],
-    own: &mut [u64],
-) -> u64
-    requires { (list.count ≤ 48) × (length row.old ≤ 1279) × Run (drop from (widths list)) count
-        × (length own.old ≡ length row.old * cascade_cells (take count (drop from (widths list)))) }
-    ensures { let ns = take count (drop from (widths list)) in let w = length row.old in
-        let made = stages (λ n. w * box_cells n) (column_stage emitted) ns row.old own.old in
-        (result ≡ w * cascade_cost ns) × (row.new ≡ made.row) × (own.new ≡ made.cells) }
+fn group(widths: &[u8], emitted: usize, row: &mut [u64], own: &mut [u64]) -> u64
+    requires { (length row.old ≤ 1279) × Group widths.now
+        × (length own.old ≡ length row.old * cascade_cells widths.now) }
+    ensures { let w = length row.old in
+        let made = stages (λ n. w * box_cells n) (column_stage emitted) widths.now row.old own.old in
+        (result ≡ w * cascade_cost widths.now) × (row.new ≡ made.row) × (own.new ≡ made.cells) }
 {
-    let n = width_at(list.count, &list.widths, from);
-    if n < 2 {
-        return 0;
-    }
+    let count = widths.len();
     let width = row.len();
     let places = (count * width) as u64;
-    if n == 2 {
-        pairs(count, row, own);
-        return places;
+    match widths[0] {
+        0 | 1 => 0,
+        2 => {
+            sweep(&Pairs { count, width }, row, own);
+            places
+        }
+        _ => {
+            wider(widths, emitted, row, own);
+            2 * places
+        }
     }
-    let found = slots(list, from, count, emitted, width);
-    let befores = found.befores;
-    let oldests = found.oldests;
-    wider(count, &befores, &oldests, row, own);
-    2 * places
 }
 
 // The column list, at the row after `emitted` others.
-pub(crate) fn down(list: Cascade, emitted: usize, row: &mut [u64], cells: &mut [u64]) -> u64
-    requires { (list.count ≤ 48) × (0 < length row.old) × (length row.old ≤ 1279)
-        × (length row.old * cascade_cells (widths list) ≤ length cells.old) }
+pub(crate) fn down(widths: &[u8], emitted: usize, row: &mut [u64], cells: &mut [u64]) -> u64
+    requires { (length widths.now ≤ 48) × (0 < length row.old) × (length row.old ≤ 1279)
+        × (length row.old * cascade_cells widths.now ≤ length cells.old) }
     ensures { let w = length row.old in
-        let made = stages (λ n. w * box_cells n) (column_stage emitted) (widths list) row.old cells.old in
-        (result ≡ w * cascade_cost (widths list)) × (row.new ≡ made.row) × (cells.new ≡ made.cells) }
+        let made = stages (λ n. w * box_cells n) (column_stage emitted) widths.now row.old cells.old in
+        (result ≡ w * cascade_cost widths.now) × (row.new ≡ made.row) × (cells.new ≡ made.cells) }
 {
-    let count = list.count as usize;
-    let mut sum: u64 = 0;
-    let mut start: usize = 0;
-    let mut j: usize = 0;
-    while j < count {
-        let k = run(list, j);
-        let end = start + row.len() * group_cells(list, j, k);
-        sum += group(list, j, k, emitted, row, &mut cells[start..end]);
+    let mut rest = widths;
+    let mut sum = 0;
+    let mut start = 0;
+    while !rest.is_empty() {
+        let (now, later) = rest.split_at(run(rest));
+        let end = start + row.len() * cascade_cells(now);
+        sum += group(now, emitted, row, &mut cells[start..end]);
         start = end;
-        j += k;
+        rest = later;
     }
     sum
 }

@@ -8,5 +8,5 @@ mod columns;
 mod keeping;
 mod sizes;
 
-pub use calls::{Started, State, Stepped, drain, push, start, state_at};
-pub use sizes::{Cells, stream_cells};
+pub use calls::{Refused, State, Stepped, drain, push, start, state_at};
+pub use sizes::stream_cells;

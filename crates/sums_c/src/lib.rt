@@ -16,6 +16,8 @@ ghost use Rattle.blocks.specs.Given.{given};
 ghost use Rattle.sums_c.specs.States.{given_state, began, called};
 
 use blocks::{filter_of, put_filter};
+use filter::no_filter;
+use spec::{Image, outcome};
 use stream::{State, state_at};
 
 // All exact sums of a picture by the direct method, with both lists of coefficients: 1 to 7.
@@ -33,8 +35,12 @@ pub extern "C" fn bore_direct(
         row_kernel.old column_kernel.old out.old
         result row_kernel.new column_kernel.new out.new }
 {
-    let given = filter_of(block);
-    direct::direct(given, width, height, pixels, row_kernel, column_kernel, out)
+    let image = Image {
+        width,
+        height,
+        pixels,
+    };
+    outcome(direct::direct(filter_of(block), image, row_kernel, column_kernel, out))
 }
 
 // All exact sums of a picture, pass by pass: 1 to 8.
@@ -50,8 +56,12 @@ pub extern "C" fn bore_passes(
     ensures { Passed (recipe (given block.now)) (picture width height pixels.now)
         out.old cells.old result out.new cells.new }
 {
-    let filter = filter_of(block);
-    passes::passes(filter, width, height, pixels, out, cells)
+    let image = Image {
+        width,
+        height,
+        pixels,
+    };
+    outcome(passes::passes(filter_of(block), image, out, cells))
 }
 
 // The state that two blocks stand for.
@@ -59,6 +69,14 @@ fn state_of(block: &[u8; 98], words: &[usize; 3]) -> State
     ensures { result ≡ given_state block.now words.now }
 {
     state_at(filter_of(block), words[0], words[1], words[2])
+}
+
+// Makes two blocks stand for a state.
+fn put_state(state: State, block: &mut [u8; 98], words: &mut [usize; 3])
+    ensures { given_state block.new words.new ≡ state }
+{
+    put_filter(state.filter, block);
+    *words = [state.width, state.height, state.emitted];
 }
 
 // The start of the one pass: 1 to 5, 8. The last two blocks become the state, of zeros on a refusal.
@@ -74,11 +92,16 @@ pub extern "C" fn bore_start(
     ensures { began result (given_state state.new words.new) cells.new
         ≡ start (given block.now) width height cells.old }
 {
-    let started = stream::start(filter_of(block), width, height, cells);
-    let begun = started.state;
-    put_filter(begun.filter, state);
-    *words = [begun.width, begun.height, begun.emitted];
-    started.refusal
+    match stream::start(filter_of(block), width, height, cells) {
+        Ok(begun) => {
+            put_state(begun, state, words);
+            0
+        }
+        Err(refusal) => {
+            put_state(state_at(no_filter(), 0, 0, 0), state, words);
+            refusal.number()
+        }
+    }
 }
 
 // A row call of the one pass: 9, 10, 6, 7, 8. The words become those of the next state, or stay on a
@@ -96,11 +119,18 @@ pub extern "C" fn bore_push(
         called result (given_state b words.new) count.new out.new cells.new
         ≡ push (given_state b words.old) pixels.now out.old cells.old }
 {
-    let pushed = stream::push(state_of(state, words), pixels, out, cells);
-    let next = pushed.state;
-    *words = [next.width, next.height, next.emitted];
-    *count = pushed.count;
-    pushed.refusal
+    match stream::push(state_of(state, words), pixels, out, cells) {
+        Ok(pushed) => {
+            let next = pushed.state;
+            *words = [next.width, next.height, next.emitted];
+            *count = pushed.count;
+            0
+        }
+        Err(refused) => {
+            *count = 0;
+            refused.refusal.number()
+        }
+    }
 }
 
 // A drain of the one pass: 9, 10, 7, 8. The words and the count are as with a row call.
@@ -116,9 +146,16 @@ pub extern "C" fn bore_drain(
         called result (given_state b words.new) count.new out.new cells.new
         ≡ drain (given_state b words.old) out.old cells.old }
 {
-    let drained = stream::drain(state_of(state, words), out, cells);
-    let then = drained.state;
-    *words = [then.width, then.height, then.emitted];
-    *count = drained.count;
-    drained.refusal
+    match stream::drain(state_of(state, words), out, cells) {
+        Ok(drained) => {
+            let then = drained.state;
+            *words = [then.width, then.height, then.emitted];
+            *count = drained.count;
+            0
+        }
+        Err(refused) => {
+            *count = 0;
+            refused.refusal.number()
+        }
+    }
 }

@@ -1,200 +1,142 @@
 -- What `search` does not find of `differences`.
 use mathlib.Core.Path.{◌≡◌, refl, sym, ap, ap₂, subst, ◌∙◌}
 use mathlib.Core.List.{List}
-use Prim.Native.Nat.{ℕ, ◌+◌, ◌-◌, ◌*◌, ◌/◌, ◌≤◌, ◌<◌}
-use native.Mathlib.Nat.{mul_comm, mul-le-mul, zero-add, zero-mul, suc-mul}
+use Prim.Native.Nat.{ℕ, ◌+◌, ◌*◌, ◌≤◌, ◌<◌}
+use native.Mathlib.Nat.{mul_comm, mul-le-mul, zero-mul, suc-mul}
 use native.Mathlib.Omega.{arith}
 use borrow.Author.Rules.{rules}
-use lib.IntN.{pos}
-use lib.ListN.{length, get_or, take, drop}
-use Rattle.spec.specs.Recipe.{recipe, order}
-use Rattle.spec.specs.Picture.{Picture, picture, largest_gray, full_width_of, full_height_of}
-use Rattle.spec.specs.Gray.{places, same_row, same_sum, difference}
+use lib.IntN.{ℤ, pos}
+use lib.ListN.{length, take, drop}
+use Rattle.spec.specs.Recipe.{recipe}
+use Rattle.spec.specs.Picture.{picture, Within, largest_gray}
+use Rattle.spec.specs.Gray.{places, difference}
 use Rattle.laws.proofs.Numbers.{row_fits}
-use Rattle.laws.proofs.Slices.{mixed_none, mixed_all, length_mixed, length_lent}
-use Rattle.laws.proofs.Refusals.{grown_most}
+use Rattle.laws.proofs.Slices.{Mixed, mixed_none, mixed_all, length_lent}
 use Rattle.laws.proofs.Rows.{length_rows, rows_more}
-use Rattle.gray.specs.Division.{Bounded}
-use Rattle.stream.specs.declared.calls.State.{State}
-use Rattle.rows.specs.Streaming.{Streamed, picture_of}
-use Rattle.rows.proofs.Driving.{is_due, has_come}
-use Rattle.rows.proofs.Taking.{long, taken_length, taken_at, taken_bounded}
-use Rattle.difference.specs.declared.Pair.{Pair}
-use Rattle.difference.specs.declared.Weights.{Weights}
-use Rattle.difference.specs.declared.Places.{Places}
+use Rattle.gray.specs.declared.rounding.Divisor.{Divisor}
+use Rattle.gray.specs.Division.{Divides}
+use Rattle.rows.specs.Streaming.{Came, picture_of}
+use Rattle.difference.specs.declared.Pass.{Pass}
+use Rattle.difference.specs.declared.Sums.{Sums}
 use Rattle.difference.specs.Pairs.{BothTaken}
 use Rattle.difference.proofs.Nearest.{row_of_differences}
+use Rattle.difference.proofs.Passes.{Standing, Row, stands_first, next_due, row_room, stands_next, row_taken}
 use Rattle.difference.proofs.differences.Goals as goal
 
 -- both one passes stand before the first row that is taken
-module _ (pair : Pair) (weights : Weights) (places : Places) (pixels a_row b_row cells : List ℕ) (taken : BothTaken pair weights places pixels a_row b_row cells) where
-  abbrev s : State
-  s = pair.a
-
-  abbrev t : State
-  t = pair.b
-
+module _ (a b : Pass) (by : Divisor) (pixels : List ℕ) (taken : BothTaken a b by pixels) where
   -- both recipes are taken of one picture
-  one-picture : picture_of t pixels ≡ picture_of s pixels
+  one-picture : picture_of b.state pixels ≡ picture_of a.state pixels
   one-picture = ap₂ (λ w h. picture w h pixels) taken.same_width taken.same_height
 
-  -- the sizes of an accepted picture
-  sizes : record {
-    first : places.a_left + s.width ≤ full_width_of (recipe s.filter) s.width;
-    second : places.b_left + s.width ≤ full_width_of (recipe t.filter) t.width;
-    first_most : full_width_of (recipe s.filter) s.width ≤ 1279;
-    second_most : full_width_of (recipe t.filter) t.width ≤ 1279;
-    out : s.width * s.height ≤ 1024 * 1024;
-  }
-  unfolding full_width_of
-  sizes =
-      let a = taken.first in
-      let b = taken.second in
-      record {
-        first = omega (arith, a.half);
-        second = omega (arith, b.half, taken.same_width);
-        first_most = (grown_most _ _ _ a.picture.recipe a.picture.sides).0;
-        second_most = (grown_most _ _ _ b.picture.recipe b.picture.sides).0;
-        out = mul-le-mul a.picture.sides.width.1 a.picture.sides.height.1;
-      }
+  small : a.state.width * a.state.height ≤ 1024 * 1024
+  small = mul-le-mul taken.first.picture.sides.width.1 taken.first.picture.sides.height.1
+
+  -- the rows of both have come, and what is taken of them
+  module _ (bytes : Within largest_gray (picture_of a.state pixels)) (j : ℕ) (l m : Pass) (st : Standing a l pixels j) (tt : Standing b m pixels j)
+      (n o : Pass) (came : Came l.state n.state pixels n.row.now n.cells.now × (n.left ≡ l.left) × (n.weight ≡ l.weight)
+      × Came m.state o.state pixels o.row.now o.cells.now × (o.left ≡ m.left) × (o.weight ≡ m.weight))
+      (first second : Sums) (x : (first.weight ≡ n.weight) × (first.sums.now ≡ take n.state.width (drop n.left n.row.now)))
+      (y : (second.weight ≡ o.weight) × (second.sums.now ≡ take o.state.width (drop o.left o.row.now))) where
+    first-row : Row (recipe a.state.filter) (picture_of a.state pixels) j first.weight first.sums.now
+    first-row = row_taken a pixels taken.first j l st n came.0 came.1 came.2 taken.a_gain bytes first.weight first.sums.now x.0 x.1
+
+    second-row : Row (recipe b.state.filter) (picture_of a.state pixels) j second.weight second.sums.now
+    second-row =
+        subst (λ p. Row (recipe b.state.filter) p j second.weight second.sums.now) one-picture
+        (row_taken b pixels taken.second j m tt o came.3 came.4 came.5 taken.b_gain bytes second.weight second.sums.now y.0 y.1)
+
+    divides : Divides (first.weight * second.weight) by
+    divides =
+        subst (λ w. Divides w by)
+        (ap₂ ◌*◌ (taken.a_gain ∙ sym first-row.heavy) (taken.b_gain ∙ sym second-row.heavy)) taken.divides
 
 -- the row of differences lies inside the output
-inside : (w h j from size : ℕ) → j < h → from ≡ j * w → size ≡ w * h → from + w ≤ size
-inside w h j from size below at e = omega (arith, at, e, mul_comm w h, row_fits w j h below)
+inside-out : (w h j size : ℕ) → j < h → size ≡ w * h → j * w + w ≤ size
+inside-out w h j size below e = omega (arith, e, mul_comm w h, row_fits w j h below)
 
-pub overflow_add-a_right : goal.overflow_add-a_right
-overflow_add-a_right c = let s = sizes _ _ _ _ _ _ _ c.requires.0 in omega (arith, s.first, s.first_most)
-
-pub overflow_add-b_right : goal.overflow_add-b_right
-overflow_add-b_right c = let s = sizes _ _ _ _ _ _ _ c.requires.0 in omega (arith, s.second, s.second_most)
+-- a row more is written
+next-row : (w j : ℕ) (front back l : List ℤ) → Mixed (j * w + w) front back l → Mixed ((j + 1) * w) front back l
+next-row w j front back l m = let e : j * w + w ≡ (j + 1) * w = omega (arith, suc-mul j w) in subst (λ n. Mixed n front back l) e m
 
 pub loop-j-init : goal.loop-j-init
-unfolding places same_row
+unfolding places
 loop-j-init c =
-    let s = c.args.pair.a in
-    let t = c.args.pair.b in
-    let p = picture_of s c.args.pixels.now in
+    let a = c.args.a in
+    let b = c.args.b in
+    let taken = c.requires.0 in
+    let p = picture_of a.state c.args.pixels.now in
     let out = c.args.out.now in
-    let d = difference (recipe s.filter) (recipe t.filter) p in
-    let size : length (places p d) ≡ length out = length_rows s.width s.height (λ j i. d i j) ∙ mul_comm s.height s.width ∙ sym c.requires.1 in (
-      omega arith,
-      omega (arith, zero-mul s.width),
-      search rules,
-      search rules,
-      search rules,
-      search rules,
-      subst (λ k. Streamed s.filter p k s (take c.args.places.middle c.args.cells.now)) (sym (zero-add (order (recipe s.filter).columns / 2))) c.requires.0.first.streamed,
-      subst (λ k. Streamed t.filter (picture_of t c.args.pixels.now) k t (drop c.args.places.middle c.args.cells.now)) (sym (zero-add (order (recipe t.filter).columns / 2))) c.requires.0.second.streamed,
-      mixed_none (places p d) out size,
+    let d = difference (recipe a.state.filter) (recipe b.state.filter) p in
+    let size : length (places p d) ≡ length out =
+    length_rows a.state.width a.state.height (λ j i. d i j) ∙ mul_comm a.state.height a.state.width ∙ sym c.requires.1 in
+    let none : 0 ≡ 0 * a.state.width = sym (zero-mul a.state.width) in
+    let first = stands_first a c.args.pixels.now taken.first in
+    let second = stands_first b c.args.pixels.now taken.second in (
+      record { left = first.left; weight = first.weight; wide = first.wide; streamed = first.streamed },
+      record { left = second.left; weight = second.weight; wide = second.wide; streamed = second.streamed },
+      subst (λ n. Mixed n (places p d) out out) none (mixed_none (places p d) out size),
     )
 
-pub next_rows-at-requires : goal.next_rows-at-requires
-unfolding full_height_of same_row
-next_rows-at-requires c =
+pub next_rows-requires : goal.next_rows-requires
+next_rows-requires c =
     let taken = c.requires.0 in
     let below = c.loop-j-test.true in (
-      is_due _ _ _ _ _ _ _ c.loop-j.invariant.6 _ taken.first.picture.size (omega (arith, below)) (c.loop-j.invariant.2 ∙ taken.first.wide),
-      is_due _ _ _ _ _ _ _ c.loop-j.invariant.7 _ taken.second.picture.size (omega (arith, below, taken.same_height)) (c.loop-j.invariant.3 ∙ taken.second.wide),
-      omega (arith, taken.inside, c.loop-j.invariant.5),
-      taken.small,
+      next_due c.args.a _ taken.first c.loop-j.j c.loop-j.a c.loop-j.invariant.0 below,
+      next_due c.args.b _ taken.second c.loop-j.j c.loop-j.b c.loop-j.invariant.1 (omega (arith, below, taken.same_height)),
     )
 
-pub overflow_add-to : goal.overflow_add-to
-overflow_add-to c =
-    let s = c.args.pair.a in
-    omega (arith, (sizes _ _ _ _ _ _ _ c.requires.0).out, inside s.width s.height _ _ _ c.loop-j-test.true c.loop-j.invariant.1 refl)
+pub taken-first-requires : goal.taken-first-requires
+taken-first-requires c =
+    let came = c.next_rows.ensures in row_room c.args.a _ c.requires.0.first c.loop-j.j c.loop-j.a c.loop-j.invariant.0 c.next_rows.new.a came.0 came.1 came.2
 
-pub offset_bounds-a_row-a_left : goal.offset_bounds-a_row-a_left
-offset_bounds-a_row-a_left c = let s = sizes _ _ _ _ _ _ _ c.requires.0 in omega (arith, s.first, s.first_most)
-
-pub slice_bounds-difference_row-end : goal.slice_bounds-difference_row-end
-slice_bounds-difference_row-end c =
-    let come = has_come _ _ _ _ _ _ _ c.loop-j.invariant.6 _ _ _ c.next_rows-at.ensures.0 in
-    omega (arith, (sizes _ _ _ _ _ _ _ c.requires.0).first, long _ _ _ _ come.1)
-
-pub offset_bounds-b_row-b_left : goal.offset_bounds-b_row-b_left
-offset_bounds-b_row-b_left c = let s = sizes _ _ _ _ _ _ _ c.requires.0 in omega (arith, s.second, s.second_most)
-
-pub slice_bounds-difference_row-end-in-loop-j : goal.slice_bounds-difference_row-end-in-loop-j
-slice_bounds-difference_row-end-in-loop-j c =
-    let come = has_come _ _ _ _ _ _ _ c.loop-j.invariant.7 _ _ _ c.next_rows-at.ensures.1 in
-    omega (arith, (sizes _ _ _ _ _ _ _ c.requires.0).second, long _ _ _ _ come.1)
-
-pub offset_bounds-out-from : goal.offset_bounds-out-from
-offset_bounds-out-from c =
-    let s = c.args.pair.a in
-    omega (arith, (sizes _ _ _ _ _ _ _ c.requires.0).out, inside s.width s.height _ _ _ c.loop-j-test.true c.loop-j.invariant.1 refl)
-
-pub slice_bounds-difference_row-end-in-loop-j-2 : goal.slice_bounds-difference_row-end-in-loop-j-2
-slice_bounds-difference_row-end-in-loop-j-2 c =
-    inside _ _ _ _ (length c.loop-j.out) c.loop-j-test.true c.loop-j.invariant.1 (c.loop-j.invariant.4 ∙ c.requires.1)
+pub taken-second-requires : goal.taken-second-requires
+taken-second-requires c =
+    let came = c.next_rows.ensures in row_room c.args.b _ c.requires.0.second c.loop-j.j c.loop-j.b c.loop-j.invariant.1 c.next_rows.new.b came.3 came.4 came.5
 
 pub difference_row-requires : goal.difference_row-requires
 difference_row-requires c =
-    let taken = c.requires.0 in
-    let below = c.loop-j-test.true in
-    let first-come = has_come _ _ _ _ _ _ _ c.loop-j.invariant.6 _ _ _ c.next_rows-at.ensures.0 in
-    let second-come = has_come _ _ _ _ _ _ _ c.loop-j.invariant.7 _ _ _ c.next_rows-at.ensures.1 in
-    let s = c.args.pair.a in
-    let t = c.args.pair.b in
-    let left = c.args.places.a_left in
-    let other = c.args.places.b_left in
-    let many : left + s.width - left ≡ s.width = omega arith in
-    let more : other + s.width - other ≡ t.width = omega (arith, taken.same_width) in
-    let bytes : (k : ℕ) → get_or c.args.pixels.now k 0 ≤ 255 = λ k. omega (arith, c.type_inv.pixels k) in
-    let out = sym (length_lent c.loop-j.from s.width c.loop-j.out (inside _ _ _ _ (length c.loop-j.out) below c.loop-j.invariant.1 (c.loop-j.invariant.4 ∙ c.requires.1))) in (
-      taken.divides,
-      subst (λ w. Bounded largest_gray w (take (left + s.width - left) (drop left c.next_rows-at.new.a_row))) (sym taken.a_gain)
-          (taken_bounded _ _ _ _ first-come.1 left _ taken.first.half many largest_gray bytes),
-      subst (λ w. Bounded largest_gray w (take (other + s.width - other) (drop other c.next_rows-at.new.b_row))) (sym taken.b_gain)
-          (taken_bounded _ _ _ _ second-come.1 other _ taken.second.half more largest_gray bytes),
-      taken_length _ _ _ _ first-come.1 left _ taken.first.half many ∙ out,
-      taken_length _ _ _ _ second-come.1 other _ taken.second.half more ∙ taken.same_width ∙ out,
+    let bytes : Within largest_gray (picture_of c.args.a.state c.args.pixels.now) = λ k. omega (arith, c.type_inv.pixels k) in
+    let a = c.args.a in
+    let w = a.state.width in
+    let out = sym (length_lent (c.loop-j.j * w) w c.loop-j.out (inside-out w a.state.height _ (length c.loop-j.out) c.loop-j-test.true (c.loop-j.auto.out ∙ c.requires.1))) in
+    let first = first-row a c.args.b c.args.by _ c.requires.0 bytes c.loop-j.j c.loop-j.a c.loop-j.b c.loop-j.invariant.0 c.loop-j.invariant.1 c.next_rows.new.a c.next_rows.new.b c.next_rows.ensures c.taken-first.result c.taken-second.result c.taken-first.ensures c.taken-second.ensures in
+    let second = second-row a c.args.b c.args.by _ c.requires.0 bytes c.loop-j.j c.loop-j.a c.loop-j.b c.loop-j.invariant.0 c.loop-j.invariant.1 c.next_rows.new.a c.next_rows.new.b c.next_rows.ensures c.taken-first.result c.taken-second.result c.taken-first.ensures c.taken-second.ensures in (
+      divides a c.args.b c.args.by _ c.requires.0 bytes c.loop-j.j c.loop-j.a c.loop-j.b c.loop-j.invariant.0 c.loop-j.invariant.1 c.next_rows.new.a c.next_rows.new.b c.next_rows.ensures c.taken-first.result c.taken-second.result c.taken-first.ensures c.taken-second.ensures,
+      first.bounded,
+      second.bounded,
+      first.size ∙ out,
+      second.size ∙ out,
     )
 
 pub loop-j-preserved : goal.loop-j-preserved
-unfolding places same_row
+unfolding places
 loop-j-preserved c =
-    let taken = c.requires.0 in
-    let first-come = has_come _ _ _ _ _ _ _ c.loop-j.invariant.6 _ _ _ c.next_rows-at.ensures.0 in
-    let second-come = has_come _ _ _ _ _ _ _ c.loop-j.invariant.7 _ _ _ c.next_rows-at.ensures.1 in
-    let s = c.args.pair.a in
-    let t = c.args.pair.b in
-    let p = picture_of s c.args.pixels.now in
-    let f = recipe s.filter in
-    let g = recipe t.filter in
+    let bytes : Within largest_gray (picture_of c.args.a.state c.args.pixels.now) = λ k. omega (arith, c.type_inv.pixels k) in
+    let a = c.args.a in
+    let b = c.args.b in
+    let w = a.state.width in
+    let h = a.state.height in
+    let p = picture_of a.state c.args.pixels.now in
+    let f = recipe a.state.filter in
+    let g = recipe b.state.filter in
     let j = c.loop-j.j in
-    let from = c.loop-j.from in
-    let left = c.args.places.a_left in
-    let other = c.args.places.b_left in
-    let below : j < s.height = c.loop-j-test.true in
-    let first-follows : same_row f j + 1 ≡ same_row f (j + 1) = omega arith in
-    let second-follows : same_row g j + 1 ≡ same_row g (j + 1) = omega arith in
-    let many : left + s.width - left ≡ s.width = omega arith in
-    let more : other + s.width - other ≡ t.width = omega (arith, taken.same_width) in
-    let xs = take (left + s.width - left) (drop left c.next_rows-at.new.a_row) in
-    let ys = take (other + s.width - other) (drop other c.next_rows-at.new.b_row) in
+    let below = c.loop-j-test.true in
+    let came = c.next_rows.ensures in
+    let first = first-row a b c.args.by _ c.requires.0 bytes j c.loop-j.a c.loop-j.b c.loop-j.invariant.0 c.loop-j.invariant.1 c.next_rows.new.a c.next_rows.new.b came c.taken-first.result c.taken-second.result c.taken-first.ensures c.taken-second.ensures in
+    let second = second-row a b c.args.by _ c.requires.0 bytes j c.loop-j.a c.loop-j.b c.loop-j.invariant.0 c.loop-j.invariant.1 c.next_rows.new.a c.next_rows.new.b came c.taken-first.result c.taken-second.result c.taken-first.ensures c.taken-second.ensures in
+    let fits = inside-out w h j (length c.loop-j.out) below (c.loop-j.auto.out ∙ c.requires.1) in
     let made =
     c.difference_row.ensures
-    ∙ row_of_differences f g p j xs ys _ _ _ taken.a_gain taken.b_gain (length_lent from s.width c.loop-j.out (inside _ _ _ _ (length c.loop-j.out) below c.loop-j.invariant.1 (c.loop-j.invariant.4 ∙ c.requires.1)))
-    (taken_at f p _ _ first-come.1 left _ taken.first.half many)
-    (λ i h. taken_at g _ _ _ second-come.1 other _ taken.second.half more i (omega (arith, h, taken.same_width)) ∙ ap (λ (q : Picture). same_sum g q i j) (one-picture _ _ _ _ _ _ _ taken)) in
-    let written =
-    rows_more s.width s.height (λ j i. difference f g p i j) (pos 0) j from _ c.loop-j.invariant.8 c.loop-j.invariant.1 below (inside _ _ _ _ (length c.args.out.now) below c.loop-j.invariant.1 c.requires.1) made in (
-      omega (arith, below),
-      omega (arith, c.loop-j.invariant.1, suc-mul j s.width),
-      long _ _ _ _ first-come.1 ∙ sym taken.first.wide,
-      long _ _ _ _ second-come.1 ∙ sym taken.second.wide,
-      length_mixed written,
-      c.next_rows-at.auto.cells ∙ c.loop-j.invariant.5,
-      subst (λ k. Streamed s.filter p k c.next_rows-at.result.a (take c.args.places.middle c.next_rows-at.new.cells)) first-follows first-come.0,
-      subst (λ k. Streamed t.filter (picture_of t c.args.pixels.now) k c.next_rows-at.result.b (drop c.args.places.middle c.next_rows-at.new.cells)) second-follows
-          second-come.0,
-      written,
+    ∙ row_of_differences f g p j _ _ _ _ _ first.heavy second.heavy (length_lent (j * w) w c.loop-j.out fits) first.at second.at in
+    let written = rows_more w h (λ j i. difference f g p i j) (pos 0) j (j * w) _ c.loop-j.invariant.2 refl below (inside-out w h j (length c.args.out.now) below c.requires.1) made in (
+      stands_next a _ c.requires.0.first c.loop-j.j c.loop-j.a c.loop-j.invariant.0 c.next_rows.new.a came.0 came.1 came.2,
+      stands_next b _ c.requires.0.second c.loop-j.j c.loop-j.b c.loop-j.invariant.1 c.next_rows.new.b came.3 came.4 came.5,
+      next-row w j _ _ _ written,
     )
 
 pub returns : goal.returns
 returns c =
-    let s = c.args.pair.a in
-    let done : c.loop-j.j ≡ s.height = omega (arith, c.loop-j.invariant.0, c.loop-j-test.false) in
-    mixed_all c.loop-j.invariant.8 (omega (arith, c.loop-j.invariant.1, ap (λ k. k * s.width) done, mul_comm s.height s.width, c.requires.1))
+    let s = c.args.a.state in
+    let done : c.loop-j.j ≡ s.height = search rules in
+    mixed_all c.loop-j.invariant.2 (omega (arith, ap (λ k. k * s.width) done, mul_comm s.height s.width, c.requires.1))

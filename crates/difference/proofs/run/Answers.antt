@@ -1,65 +1,50 @@
 -- `difference::run` meets its contract: both one passes are started, each on its own part of the cells, then come the differences.
 -- Assumes nothing.
-use mathlib.Core.Path.{◌≡◌, ap, ◌∙◌}
-use mathlib.Core.List.{List, ◌++◌}
-use Prim.Native.Nat.{ℕ, ◌-◌, ◌≤◌}
+use mathlib.Core.Path.{◌≡◌, sym, ◌∙◌}
+use Prim.Native.Nat.{ℕ, ◌≤◌}
 use native.Mathlib.Omega.{arith}
-use lib.ListN.{length, take, drop, length-drop}
-use Rattle.difference.proofs.Parts.{front_is, front_length, back_is, two_front, two_back, two_length}
-use Rattle.difference.proofs.Pairs.{first_accepted_lem, second_accepted_lem, front_inside, front_small, first_starts, second_starts, first_above, second_above, product_small, both_taken, size_by_state, made_by_state}
+use lib.ListN.{length, take, replicate, length-replicate}
+use lib.Seq.{length-take-le}
+use Rattle.difference.proofs.Pairs.{Begun, first_accepted_lem, second_accepted_lem, first_grown, second_grown, front_inside, first_starts, second_starts, first_above, second_above, product_small, both_taken, size_by_state, made_by_state}
 use Rattle.difference.proofs.run.Goals as goal
 
--- cells of which the first recipe has those before `middle`, and what both have made of theirs
-module _ (middle : ℕ) (cells : List ℕ) (inside : middle ≤ length cells) where
-  -- how many each has
-  first-size : length (take (middle - 0) cells) ≡ middle
-  first-size = ap length (front_is middle cells inside) ∙ front_length middle cells inside
+-- a row of the widest grown width, of which so much is lent
+row-long : (n : ℕ) → n ≤ 1279 → length (take n (replicate {A = ℕ} 1279 0)) ≡ n
+row-long n h = length-take-le n (replicate {A = ℕ} 1279 0) (omega (arith, length-replicate {A = ℕ} 1279 0))
 
-  module _ (ys : List ℕ) (size : length ys ≡ middle) where
-    abbrev one : List ℕ
-    one = ys ++ drop (middle - 0) cells
+pub overflow_add-a_width : goal.overflow_add-a_width
+overflow_add-a_width c = omega (arith, (first_grown _ _ _ _ _ _ _ c.requires.0).few)
 
-    second-size : length (take (length cells - middle) (drop middle one)) ≡ length cells - middle
-    second-size = ap length (back_is middle cells inside ys size) ∙ length-drop middle cells
+pub overflow_add-b_width : goal.overflow_add-b_width
+overflow_add-b_width c = omega (arith, (second_grown _ _ _ _ _ _ _ c.requires.0).few)
 
-    -- the cells after both starts: the first recipe's, the second's, and as many as before
-    module _ (zs : List ℕ) (long : length zs ≡ length (take (length cells - middle) (drop middle one))) where
-      abbrev two : List ℕ
-      two = take middle one ++ (zs ++ drop (length cells - middle) (drop middle one))
+pub split_at_mut-a_cells-requires : goal.split_at_mut-a_cells-requires
+split_at_mut-a_cells-requires c = front_inside _ _ _ _ _ _ _ c.requires.0
 
-      cells-after : (take middle two ≡ ys) × (drop middle two ≡ zs) × (length two ≡ length cells)
-      cells-after = (
-        two_front middle cells inside ys size zs,
-        two_back middle cells inside ys size zs,
-        two_length middle cells inside ys size zs (long ∙ ap length (back_is middle cells inside ys size)),
-      )
+pub slice_bounds-a_row-end : goal.slice_bounds-a_row-end
+slice_bounds-a_row-end c = (first_grown _ _ _ _ _ _ _ c.requires.0).few
 
-pub slice_bounds-begin-end : goal.slice_bounds-begin-end
-slice_bounds-begin-end c = omega (arith, front_inside _ _ _ _ _ _ _ c.requires.0)
+pub slice_bounds-pass-end : goal.slice_bounds-pass-end
+slice_bounds-pass-end c = sym (row-long _ (first_grown _ _ _ _ _ _ _ c.requires.0).few)
 
-pub begin-first-requires : goal.begin-first-requires
-begin-first-requires c =
-    let both = c.requires.0 in (
-      first_starts _ _ _ _ _ _ _ both _ (first-size c.args.shape.middle c.args.cells.now (front_inside _ _ _ _ _ _ _ both)),
+pub pass-first-requires : goal.pass-first-requires
+pass-first-requires c =
+    let both = c.requires.0 in
+    let g = first_grown _ _ _ _ _ _ _ both in (
+      first_starts _ _ _ _ _ _ _ both _ c.split_at_mut-a_cells.ensures.front_len,
       (first_accepted_lem _ _ _ _ _ _ _ both).size,
       first_above _ _ _ _ _ _ _ both,
-      c.requires.1,
+      row-long _ g.few ∙ g.wide,
     )
 
-pub offset_bounds-cells-middle : goal.offset_bounds-cells-middle
-offset_bounds-cells-middle c = omega (arith, front_small _ _ _ _ _ _ _ c.requires.0)
-
-pub begin-second-requires : goal.begin-second-requires
-begin-second-requires c =
+pub pass-second-requires : goal.pass-second-requires
+pass-second-requires c =
     let both = c.requires.0 in
-    let middle = c.args.shape.middle in
-    let cells = c.args.cells.now in
-    let inside = front_inside _ _ _ _ _ _ _ both in
-    let size = c.begin-first.auto.cells ∙ first-size middle cells inside in (
-      second_starts _ _ _ _ _ _ _ both _ (second-size middle cells inside c.begin-first.new.cells size),
+    let g = second_grown _ _ _ _ _ _ _ both in (
+      second_starts _ _ _ _ _ _ _ both _ c.split_at_mut-a_cells.ensures.back_len,
       (second_accepted_lem _ _ _ _ _ _ _ both).size,
       second_above _ _ _ _ _ _ _ both,
-      c.requires.2,
+      row-long _ g.few ∙ g.wide,
     )
 
 pub overflow_mul-a : goal.overflow_mul-a
@@ -67,18 +52,26 @@ overflow_mul-a c = omega (arith, product_small _ _ _ _ _ _ _ c.requires.0)
 
 pub differences-requires : goal.differences-requires
 differences-requires c =
+    let image = c.args.image in
     let both = c.requires.0 in
-    let middle = c.args.shape.middle in
-    let cells = c.args.cells.now in
-    let inside = front_inside _ _ _ _ _ _ _ both in
-    let size = c.begin-first.auto.cells ∙ first-size middle cells inside in
-    let after = cells-after middle cells inside c.begin-first.new.cells size c.begin-second.new.cells c.begin-second.auto.cells in (
-      both_taken _ _ _ _ _ _ _ both _ _ _ _ c.begin-first.ensures c.begin-second.ensures _ _ _ _
-          (c.begin-first.auto.row ∙ c.requires.1) (c.begin-second.auto.row ∙ c.requires.2)
-          after.0 after.1 after.2 c.divisor_of.ensures,
-      c.requires.3 ∙ size_by_state _ _ _ _ _ _ _ both _ _ _ _ c.begin-first.ensures c.begin-second.ensures,
+    let first = c.pass-first.ensures in
+    let second = c.pass-second.ensures in
+    let s : Begun c.args.a image.width image.height image.pixels.now c.pass-first.result =
+    record { streamed = first.0; left = first.1; weight = first.2; wide = first.3 ∙ row-long _ (first_grown _ _ _ _ _ _ _ both).few } in
+    let t : Begun c.args.b image.width image.height image.pixels.now c.pass-second.result =
+    record { streamed = second.0; left = second.1; weight = second.2; wide = second.3 ∙ row-long _ (second_grown _ _ _ _ _ _ _ both).few } in (
+      both_taken _ _ _ _ _ _ _ both c.pass-first.result c.pass-second.result s t _ c.of-by.ensures,
+      c.requires.1 ∙ size_by_state _ _ _ _ _ _ _ both c.pass-first.result c.pass-second.result s t,
     )
 
 pub returns : goal.returns
 returns c =
-    made_by_state _ _ _ _ _ _ _ c.requires.0 _ _ _ _ c.begin-first.ensures c.begin-second.ensures _ c.differences.ensures
+    let image = c.args.image in
+    let both = c.requires.0 in
+    let first = c.pass-first.ensures in
+    let second = c.pass-second.ensures in
+    let s : Begun c.args.a image.width image.height image.pixels.now c.pass-first.result =
+    record { streamed = first.0; left = first.1; weight = first.2; wide = first.3 ∙ row-long _ (first_grown _ _ _ _ _ _ _ both).few } in
+    let t : Begun c.args.b image.width image.height image.pixels.now c.pass-second.result =
+    record { streamed = second.0; left = second.1; weight = second.2; wide = second.3 ∙ row-long _ (second_grown _ _ _ _ _ _ _ both).few } in
+    made_by_state _ _ _ _ _ _ _ both c.pass-first.result c.pass-second.result s t _ c.differences.ensures

@@ -31,7 +31,7 @@ pub returns-then-is_other_length : goal.returns-then-is_other_length
 unfolding called
 returns-then-is_other_length c =
     let other = sym c.is_other_length.ensures ∙ c.if-is_other_length.true in
-    advance_other c.args.state c.args.pixels.now c.args.out.now c.args.cells.now other _ c.pixels_refusal-number.ensures
+    advance_other c.args.state c.args.pixels.now c.args.out.now c.args.cells.now other _ c.pixels_refusal-refusal.ensures
 
 pub overflow_mul-from : goal.overflow_mul-from
 overflow_mul-from c = omega (arith, inside c.before)

@@ -29,10 +29,11 @@ returns-then-width-eq0 c =
 pub returns-then-len-width-ne0 : goal.returns-then-len-width-ne0
 returns-then-len-width-ne0 c =
     let args = c.args in
-    sym (not_stated args.len (args.width * args.height) (λ e. c.if-len-width-ne0.true (ap (λ n. n % args.width) e ∙ mul-mod_right args.width args.height)))
+    ap not (ne_eqb _ _ c.if-len-width-ne0.true)
+    ∙ sym (not_stated args.len (args.width * args.height) (λ e. c.if-len-width-ne0.true (ap (λ n. n % args.width) e ∙ mul-mod_right args.width args.height)))
 
-pub returns : goal.returns
+pub returns-else-len-width-ne0 : goal.returns-else-len-width-ne0
 unfolding other_pixels
-returns c =
+returns-else-len-width-ne0 c =
     let args = c.args in
     ap not (divides args.len args.width args.height (pos_of_ne-zero c.if-width-eq0.false) c.if-len-width-ne0.false)

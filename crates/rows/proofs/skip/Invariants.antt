@@ -6,10 +6,10 @@ use lib.ListN.{length}
 use Rattle.rows.specs.Advance.{skip}
 use Rattle.rows.proofs.skip.Given as goal
 
-abbrev pub invariant-loop-k : goal.invariant-loop-k
-invariant-loop-k l =
-    (length l.row ≡ length l.initial.row) × (length l.cells ≡ length l.initial.cells)
-    × (skip (l.count - l.k) l.at l.pixels l.row l.cells ≡ skip l.count l.initial.at l.pixels l.initial.row l.initial.cells)
-
-abbrev pub decreases-loop-k : goal.decreases-loop-k
-decreases-loop-k l = l.count - l.k
+abbrev pub invariant-loop : goal.invariant-loop
+invariant-loop l =
+    record {
+      wide : length l.row ≡ length l.initial.row;
+      long : length l.cells ≡ length l.initial.cells;
+      leads : skip (l.count - l.counter) l.at l.pixels l.row l.cells ≡ skip l.count l.initial.at l.pixels l.initial.row l.initial.cells;
+    }

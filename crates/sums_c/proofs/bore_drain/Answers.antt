@@ -1,17 +1,14 @@
--- `sums_c::bore_drain` meets its contract: the answer of `stream::drain`, whose state keeps the recipe.
--- Assumes nothing.
-use mathlib.Core.Path.{ap, ◌∙◌}
-use Rattle.stream.specs.declared.calls.State.{State}
-use Rattle.stream.specs.Calls.{drain}
+-- What `search` does not find of `bore_drain`: the answer of `stream::drain`, whose state keeps the recipe.
 use Rattle.sums_c.specs.States.{given_state}
-use Rattle.sums_c.proofs.Keeping.{drain_keeps, told}
+use Rattle.sums_c.proofs.Keeping.{drain_keeps, drain_refused, told}
 use Rattle.sums_c.proofs.bore_drain.Goals as goal
 
-pub returns : goal.returns
+pub returns-in-Ok : goal.returns-in-Ok
 unfolding given_state
-returns c =
+returns-in-Ok c =
     let args = c.args in
-    let s = given_state args.state.now args.words.now in
-    told args.state.now c.drain-drained.result _ _ (drain s args.out.now args.cells.now)
-    (c.drain-drained.ensures ∙ ap (λ (t : State). drain t args.out.now args.cells.now) c.state_of.ensures)
-    (drain_keeps s args.out.now args.cells.now)
+    told args.state.now c.in-Ok.drained _ _ _ (rw c.state_of.ensures at c.in-Ok.ensures)
+    (drain_keeps (given_state args.state.now args.words.now) args.out.now args.cells.now)
+
+pub returns-in-Err : goal.returns-in-Err
+returns-in-Err c = rw c.number.ensures (drain_refused c.in-Err.refused _ _ _ _ _ (rw c.state_of.ensures at c.in-Err.ensures))

@@ -1,17 +1,14 @@
--- `sums_c::bore_push` meets its contract: the answer of `stream::push`, whose state keeps the recipe.
--- Assumes nothing.
-use mathlib.Core.Path.{ap, ◌∙◌}
-use Rattle.stream.specs.declared.calls.State.{State}
-use Rattle.stream.specs.Calls.{push}
+-- What `search` does not find of `bore_push`: the answer of `stream::push`, whose state keeps the recipe.
 use Rattle.sums_c.specs.States.{given_state}
-use Rattle.sums_c.proofs.Keeping.{push_keeps, told}
+use Rattle.sums_c.proofs.Keeping.{push_keeps, push_refused, told}
 use Rattle.sums_c.proofs.bore_push.Goals as goal
 
-pub returns : goal.returns
+pub returns-in-Ok : goal.returns-in-Ok
 unfolding given_state
-returns c =
+returns-in-Ok c =
     let args = c.args in
-    let s = given_state args.state.now args.words.now in
-    told args.state.now c.push-pushed.result _ _ (push s args.pixels.now args.out.now args.cells.now)
-    (c.push-pushed.ensures ∙ ap (λ (t : State). push t args.pixels.now args.out.now args.cells.now) c.state_of.ensures)
-    (push_keeps s args.pixels.now args.out.now args.cells.now)
+    told args.state.now c.in-Ok.pushed _ _ _ (rw c.state_of.ensures at c.in-Ok.ensures)
+    (push_keeps (given_state args.state.now args.words.now) args.pixels.now args.out.now args.cells.now)
+
+pub returns-in-Err : goal.returns-in-Err
+returns-in-Err c = rw c.number.ensures (push_refused c.in-Err.refused _ _ _ _ _ _ (rw c.state_of.ensures at c.in-Err.ensures))

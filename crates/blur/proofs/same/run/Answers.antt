@@ -4,29 +4,23 @@
 use mathlib.Core.Path.{◌≡◌, sym, ap, ◌∙◌}
 use mathlib.Core.List.{List, ◌++◌}
 use Prim.Native.Nat.{ℕ, ◌-◌, ◌*◌, ◌/◌, ◌≤◌, ◌<◌}
-use native.Mathlib.Nat.{sub-zero}
 use native.Mathlib.Omega.{arith}
-use lib.ListN.{length, take, drop, replicate, length-replicate, length-append}
-use lib.Seq.{take_at}
+use lib.ListN.{length, take, drop, replicate, length-replicate}
+use lib.Seq.{take_at, length-take-le}
 use Rattle.spec.specs.declared.Filter.{Filter}
-use Rattle.spec.specs.Recipe.{widths, recipe}
-use Rattle.spec.specs.Picture.{picture, largest_gray, Within, full_width_of, full_height_of}
+use Rattle.spec.specs.Recipe.{Recipe, widths, recipe, order}
+use Rattle.spec.specs.Picture.{Sides, picture, pictured, full_sides, full_width_of, full_height_of}
 use Rattle.spec.specs.Refusals.{first, picture_checks, full_size}
 use Rattle.spec.specs.Gray.{places, same_gray, same_leftover}
-use Rattle.laws.proofs.Slices.{length_between}
-use Rattle.laws.proofs.Refusals.{Accepted, is_accepted_picture}
-use Rattle.filter.specs.declared.checks.Measures.{Measures}
-use Rattle.filter.proofs.Measuring.{Known}
+use Rattle.laws.proofs.Refusals.{Accepted, AcceptedPicture, is_accepted_picture, grown_most}
 use Rattle.laws.proofs.Alone.{Light, rows_light, columns_light}
 use Rattle.stream.specs.declared.calls.State.{State}
-use Rattle.stream.specs.declared.calls.Started.{Started}
-use Rattle.stream.specs.Calls.{began, start}
-use Rattle.rows.specs.Advance.{skip, skipped as skipped_to}
-use Rattle.rows.specs.Streaming.{Streamed, picture_of}
-use Rattle.rows.proofs.Advancing.{has_begun}
+use Rattle.rows.specs.Streaming.{picture_of}
 use Rattle.rows.proofs.Taking.{is_taken, start_accepted}
 use Rattle.filter.specs.Axis.{axis_weights, AxisFilled}
-use Rattle.blur.proofs.Weights.{length_axis, axis_filled}
+use Rattle.filter.specs.Answers.{sides}
+use Rattle.blur.proofs.Weights.{length_axis, axis_number, axis_filled}
+use Rattle.blur.proofs.Parts.{is_accepted}
 use Rattle.blur.proofs.same.run.Goals as goal
 
 -- the weights along a row, and those down a column
@@ -40,75 +34,115 @@ columns_light_of f k = columns_light (recipe f) k
 
 -- the weights that are filled in along an axis, in front of the slice that is lent for them
 module _ (ns : List ℕ) (light : Light ns) (n : ℕ) (side : (0 < n) × (n ≤ 1024)) (number : ℕ) (new : List ℕ)
-    (filled : AxisFilled ns n (take (n - 0) (drop 0 (replicate 1024 0))) number new) where
+    (filled : AxisFilled ns n (take n (replicate 1024 0)) number new) where
   abbrev after : List ℕ
-  after = new ++ drop (n - 0) (replicate 1024 0)
+  after = new ++ drop n (replicate 1024 0)
+
+  lent-long : length (take n (replicate {A = ℕ} 1024 0)) ≡ n
+  lent-long = length-take-le n (replicate {A = ℕ} 1024 0) (omega (arith, side.1, length-replicate {A = ℕ} 1024 0))
+
+  weights-none : number ≡ 0
+  weights-none = axis_number ns light n side _ _ number lent-long filled
 
   weights-new : new ≡ axis_weights ns n
-  weights-new =
-      let fits : n ≤ length {A = ℕ} (replicate 1024 0) = omega (arith, side.1, length-replicate {A = ℕ} 1024 0) in
-      axis_filled ns light n side _ _ number (length_between {A = ℕ} 0 (replicate 1024 0) 0 n (omega arith) fits ∙ sub-zero n) filled
+  weights-new = axis_filled ns light n side _ _ number lent-long filled
 
-  weights-filled : take (n - 0) after ≡ axis_weights ns n
-  weights-filled = take_at new _ (n - 0) (ap length weights-new ∙ length_axis ns n ∙ sym (sub-zero n)) ∙ weights-new
+  weights-filled : take n after ≡ axis_weights ns n
+  weights-filled = take_at new _ n (ap length weights-new ∙ length_axis ns n) ∙ weights-new
 
-  inside : n ≤ length after
-  inside = omega (arith, ap length weights-new ∙ length_axis ns n, length-append new (drop (n - 0) (replicate 1024 0)))
+-- an accepted recipe and picture, and the grown sides
+module _ (r : Recipe) (w h : ℕ) (pixels : List ℕ) (none : first (picture_checks r (picture w h pixels)) ≡ 0) (full : Sides) (is : full ≡ full_sides r w h) where
+  accepted : AcceptedPicture r (picture w h pixels)
+  accepted = is_accepted_picture r (picture w h pixels) none
 
--- the state before the first row that is taken
-skipped : (f : Filter) (w h : ℕ) (pixels : List ℕ) → first (picture_checks (recipe f) (picture w h pixels)) ≡ 0 → Within largest_gray (picture w h pixels)
-    → (m : Measures) → Known (recipe f) m → (given : List ℕ) → length given ≡ 2 * full_size (recipe f) (picture w h pixels) → (a : Started) (cells : List ℕ)
-    → began a cells ≡ start f w h given → (row : List ℕ) → length row ≡ full_width_of (recipe f) w → (t : State) (left held : List ℕ)
-    → skipped_to t left held ≡ skip (m.column_order / 2) a.state pixels row cells → Streamed f (picture w h pixels) (m.column_order / 2) t held
-unfolding full_height_of
-skipped f w h pixels none bytes m k given enough a cells begins row wide t left held e =
-    has_begun f w h pixels (is_accepted_picture _ _ none).size bytes _ (omega (arith, k.column_reach)) given (start_accepted _ (picture w h pixels) (length given) none (omega (arith, enough)))
-    a cells begins row wide t left held e
+  wide : full.width ≡ full_width_of r w
+  unfolding full_sides
+  wide = ap (λ (s : Sides). s.width) is
 
-pub slice_bounds-across-end : goal.slice_bounds-across-end
-slice_bounds-across-end c =
-    let k = is_accepted_picture _ _ c.requires.0 in
-    omega (arith, k.sides.width, length-replicate {A = ℕ} 1024 0)
+  narrow : full.width ≤ 1279
+  narrow = omega (arith, wide, (grown_most r w h accepted.recipe accepted.sides).0)
 
-pub slice_bounds-down-end : goal.slice_bounds-down-end
-slice_bounds-down-end c =
-    let k = is_accepted_picture _ _ c.requires.0 in
-    omega (arith, k.sides.height, length-replicate {A = ℕ} 1024 0)
+  high : full.height ≡ full_height_of r h
+  unfolding full_sides
+  high = ap (λ (s : Sides). s.height) is
 
-pub slice_bounds-gray_rows-end : goal.slice_bounds-gray_rows-end
-slice_bounds-gray_rows-end c =
-    let k = is_accepted_picture _ _ c.requires.0 in
-    omega (arith, k.sides.width, inside _ (rows_light_of c.args.filter k.recipe) _ k.sides.width _ _ c.axis_weights.ensures)
+  tall : h ≤ full.height
+  unfolding full_height_of
+  tall = omega (arith, high)
 
-pub slice_bounds-gray_rows-end-2 : goal.slice_bounds-gray_rows-end-2
-slice_bounds-gray_rows-end-2 c =
-    let k = is_accepted_picture _ _ c.requires.0 in
-    omega (arith, k.sides.height, inside _ (columns_light_of c.args.filter k.recipe) _ k.sides.height _ _ c.axis_weights-2.ensures)
+  -- the grown rows above the first that is taken
+  above-half : (full.height - h) / 2 ≡ order r.columns / 2
+  unfolding full_height_of
+  above-half = omega (arith, high)
+
+  above-due : (full.height - h) / 2 ≤ full_height_of r h
+  above-due = omega (arith, high)
+
+  row-long : length (take full.width (replicate {A = ℕ} 1279 0)) ≡ full.width
+  row-long = length-take-le full.width (replicate {A = ℕ} 1279 0) (omega (arith, narrow, length-replicate {A = ℕ} 1279 0))
+
+pub overflow_sub-above : goal.overflow_sub-above
+overflow_sub-above c = tall _ _ _ _ c.requires.0 _ c.requires.1
+
+pub slice_bounds-row-end : goal.slice_bounds-row-end
+slice_bounds-row-end c = narrow _ _ _ _ c.requires.0 _ c.requires.1
+
+pub slice_bounds-row-end-2 : goal.slice_bounds-row-end-2
+slice_bounds-row-end-2 c = sym (row-long _ _ _ _ c.requires.0 _ c.requires.1)
+
+pub begin-state-requires : goal.begin-state-requires
+begin-state-requires c =
+    let q = c.requires in
+    let image = c.args.image in
+    let r = recipe c.args.filter in
+    let enough : 2 * full_size r (pictured image) ≤ length c.args.cells.now = omega (arith, q.4) in (
+      start_accepted r (pictured image) (length c.args.cells.now) q.0 enough,
+      (accepted r image.width image.height image.pixels.now q.0 (sides c.args.full) q.1).size,
+      above-due r image.width image.height image.pixels.now q.0 (sides c.args.full) q.1,
+      row-long r image.width image.height image.pixels.now q.0 (sides c.args.full) q.1 ∙ wide r image.width image.height image.pixels.now q.0 (sides c.args.full) q.1,
+    )
+
+pub unwrap-requires : goal.unwrap-requires
+unfolding recipe
+unwrap-requires c =
+    let k = is_accepted_picture (recipe c.args.filter) (pictured c.args.image) c.requires.0 in
+    is_accepted _ (weights-none _ (rows_light_of c.args.filter k.recipe) _ k.sides.width _ _ c.axis_weights.ensures)
+
+pub unwrap-requires-2 : goal.unwrap-requires-2
+unfolding recipe
+unwrap-requires-2 c =
+    let k = is_accepted_picture (recipe c.args.filter) (pictured c.args.image) c.requires.0 in
+    is_accepted _ (weights-none _ (columns_light_of c.args.filter k.recipe) _ k.sides.height _ _ c.axis_weights-2.ensures)
 
 pub gray_rows-requires : goal.gray_rows-requires
 unfolding recipe
 gray_rows-requires c =
-    let a = c.args in
-    let f = a.filter in
-    let k = is_accepted_picture _ _ c.requires.0 in
-    let known = c.requires.1 in
-    let st = skipped f _ _ a.pixels.now c.requires.0 (λ k. omega (arith, c.type_inv.pixels k)) a.m known _ c.requires.5 _ _ c.start.ensures _ c.requires.2 _ _ _ c.skip-state.ensures in
+    let q = c.requires in
+    let image = c.args.image in
+    let f = c.args.filter in
+    let k = accepted (recipe f) image.width image.height image.pixels.now q.0 (sides c.args.full) q.1 in
+    let st = c.begin-state.ensures in
     let is = sym st.is in
-    let size = ap (λ (s : State). s.width * s.height) is in (
-      is_taken _ _ _ _ _ _ _ st _ _ k (ap (λ n. n / 2) known.column_reach) (ap (λ n. n / 2) known.row_reach) (c.skip-state.auto.row ∙ c.requires.2),
+    let size = ap (λ (s : State). s.width * s.height) is in
+    let long =
+    c.begin-state.auto.row
+    ∙ row-long (recipe f) image.width image.height image.pixels.now q.0 (sides c.args.full) q.1
+    ∙ wide (recipe f) image.width image.height image.pixels.now q.0 (sides c.args.full) q.1 in (
+      is_taken f _ _ _ _ _ _ st _ _ k
+          (above-half (recipe f) image.width image.height image.pixels.now q.0 (sides c.args.full) q.1)
+          (ap (λ (s : State). order (recipe s.filter).rows / 2) st.is)
+          long,
       weights-filled _ (rows_light_of f k.recipe) _ k.sides.width _ _ c.axis_weights.ensures ∙ ap (λ (s : State). axis_weights (recipe s.filter).rows s.width) is,
       weights-filled _ (columns_light_of f k.recipe) _ k.sides.height _ _ c.axis_weights-2.ensures ∙ ap (λ (s : State). axis_weights (recipe s.filter).columns s.height) is,
-      c.requires.3 ∙ size,
-      c.requires.4 ∙ size,
+      q.2 ∙ size,
+      q.3 ∙ size,
     )
 
 pub returns : goal.returns
 returns c =
-    let a = c.args in
-    let pixels = a.pixels.now in
+    let pixels = c.args.image.pixels.now in
     let made = c.gray_rows.ensures in
-    let st = skipped a.filter _ _ pixels c.requires.0 (λ k. omega (arith, c.type_inv.pixels k)) a.m c.requires.1 _ c.requires.5 _ _ c.start.ensures _ c.requires.2 _ _ _ c.skip-state.ensures in
-    let is = st.is in (
+    let is = c.begin-state.ensures.is in (
       made.0 ∙ ap (λ (s : State). places (picture_of s pixels) (same_gray (recipe s.filter) (picture_of s pixels))) is,
       made.1 ∙ ap (λ (s : State). places (picture_of s pixels) (same_leftover (recipe s.filter) (picture_of s pixels))) is,
     )

@@ -1,62 +1,22 @@
 -- What `search` does not find of `columns::slid_row`.
-use mathlib.Core.Path.{◌≡◌, refl, ap, ap₂}
-use Prim.Native.Nat.{ℕ, ◌+◌, ◌-◌}
-use native.Mathlib.Nat.{add-zero}
+use mathlib.Core.Path.{refl}
+use Prim.Native.Nat.{◌+◌, ◌-◌}
 use native.Mathlib.Omega.{arith}
-use borrow.Author.Rules.{rules}
-use lib.ListN.{length-set}
 use Rattle.laws.proofs.Kernels.{at}
-use Rattle.passes.proofs.Writing.{rewritten_none, rewritten_more, sum_above}
-use Rattle.passes.proofs.columns.slid_row.Lts
-use Rattle.passes.proofs.columns.slid_row.Reads
+use Rattle.passes.proofs.Writing.{below_more}
 use Rattle.passes.proofs.columns.slid_row.Goals as goal
 
-pub loop-i-init : goal.loop-i-init
-loop-i-init c =
-    let args = c.args in
-    let f : ℕ → ℕ = λ k. at args.dst.now (k - args.step) + at args.src.now k - at args.src.now (k - args.span) in
-    (search rules, search rules, refl, search rules, rw (add-zero args.here) (rewritten_none args.here f _))
-
-pub overflow_add-dst-in-loop-i-2 : goal.overflow_add-dst-in-loop-i-2
+pub overflow_add-sum : goal.overflow_add-sum
 unfolding at
-overflow_add-dst-in-loop-i-2 c =
-    let args = c.args in
-    let turn = c.loop-i in
-    let sum = sum_above args.step args.here turn.i args.src.now _ args.dst.now turn.dst turn.invariant.4 (omega arith) (omega arith) in
-    omega (arith, sum, c.requires.5 (args.here + turn.i) (omega arith) (omega arith))
+overflow_add-sum c = omega (arith, c.requires.3 c.loop-i.i (omega arith))
 
--- what goes out
-out : (c : Lts.After-shared_slice_known2 Reads.Pre Reads.Post goal.the-invariant-loop-i goal.the-decreases-loop-i) →
-    let turn = c.loop-i in
-    at c.args.src.now (c.args.here - c.args.span + turn.i) ≡ at c.args.src.now (c.args.here + turn.i - c.args.span)
-out c =
-    let turn = c.loop-i in
-    let e : c.args.here - c.args.span + turn.i ≡ c.args.here + turn.i - c.args.span = omega arith in
-    ap (at c.args.src.now) e
-
-pub overflow_sub-dst : goal.overflow_sub-dst
+pub overflow_sub-sum : goal.overflow_sub-sum
 unfolding at
-overflow_sub-dst c =
-    let args = c.args in
-    let turn = c.loop-i in
-    let sum = sum_above args.step args.here turn.i args.src.now _ args.dst.now turn.dst turn.invariant.4 (omega arith) (omega arith) in
-    omega (arith, sum, out c.before, c.requires.6 (args.here + turn.i) (omega arith) (omega arith))
+overflow_sub-sum c = omega (arith, c.requires.4 c.loop-i.i (omega arith))
 
 pub loop-i-preserved : goal.loop-i-preserved
 unfolding at
 loop-i-preserved c =
     let args = c.args in
-    let turn = c.loop-i in (
-      search rules,
-      search rules,
-      simp length-set turn.invariant.2,
-      search rules,
-      rewritten_more args.here _ _ (args.here + turn.i) _ turn.dst _ (omega arith) turn.invariant.4 (omega arith) (omega arith)
-          (ap₂ ◌-◌ (sum_above args.step args.here turn.i args.src.now _ args.dst.now turn.dst turn.invariant.4 (omega arith) (omega arith)) (out c.before)),
-    )
-
-pub returns : goal.returns
-returns c =
     let turn = c.loop-i in
-    let e : turn.i ≡ c.args.width = omega arith in
-    rw e at turn.invariant.4
+    below_more (λ k. at args.above.now k + at args.coming.now k - at args.going.now k) turn.i turn.row _ turn.invariant (omega arith) refl

@@ -1,81 +1,83 @@
 -- What `search` does not find of `grown::grow`.
-use mathlib.Core.Path.{refl, ◌∙◌}
-use Prim.Native.Nat.{◌+◌, ◌≤◌}
-use native.Mathlib.Nat.{mul_comm, mul-le-mul_right}
+use mathlib.Core.Path.{◌≡◌, sym, ap, ◌∙◌}
+use mathlib.Core.List.{◌∷◌, ◌++◌, []}
+use Prim.Native.Nat.{ℕ, ◌+◌, ◌*◌, ◌≤◌}
+use native.Mathlib.Nat.{suc-mul, mul-le-mul_right}
+use native.Mathlib.Numerals.{add-one}
 use native.Mathlib.Omega.{arith}
 use borrow.Author.Rules.{rules}
-use lib.ListN.{length}
-use Rattle.passes.proofs.Growing.{grown_none, grown_more, grown_all}
+use lib.ListN.{length, drop, length-append, get_or-replicate}
+use Rattle.spec.specs.Picture.{picture}
 use Rattle.laws.proofs.Numbers.{row_fits}
-use Rattle.passes.proofs.grown.grow.Lts
-use Rattle.passes.proofs.grown.grow.Reads
-use Rattle.passes.proofs.grown.grow.Tie
+use Rattle.laws.proofs.Kernels.{at}
+use Rattle.laws.proofs.Slices.{length_between}
+use Rattle.laws.proofs.Flat.{flat}
+use Rattle.passes.proofs.Writing.{below_part, below_last}
+use Rattle.passes.proofs.Growing.{rows_end, row_there, rows_rest, flat_row, flat_black}
 use Rattle.passes.proofs.grown.grow.Goals as goal
 
-pub loop-j-init : goal.loop-j-init
-loop-j-init c =
+pub slice_bounds-copy_row-end : goal.slice_bounds-copy_row-end
+slice_bounds-copy_row-end c =
     let args = c.args in
-    (refl, search rules, grown_none _ args.full_width args.dst.now)
-
--- the row is inside the pixels, and inside the grown picture
-inside : (c : Lts.In-loop Tie.the-claims Reads.Pre Reads.Post goal.the-invariant-loop-j goal.the-decreases-loop-j) →
-    let args = c.args in
-    let turn = c.loop-j in
-    (turn.from + args.width ≤ length args.pixels.now) × (turn.to + args.full_width ≤ length turn.dst)
-inside c =
-    let turn = c.loop-j in
-    let args = c.args in
-    let w = args.width in
-    let h = args.height in
+    let v = c.loop-j.invariant in
+    let t = c.in-Some.ensures.steps in
+    let p = picture args.width args.height args.pixels.now in
     let W = args.full_width in
-    let row = turn.invariant.2 in (
-      omega (arith, row.source, c.requires.0, mul_comm w h, row_fits w turn.j h c.loop-j-test.true),
-      omega (arith, row.target, turn.invariant.0, c.requires.3, row_fits W turn.j h c.loop-j-test.true),
-    )
-
-pub copy_row-requires : goal.copy_row-requires
-copy_row-requires c = ((inside c.before.before).0, omega (arith, (inside c.before.before).1))
-
-pub overflow_add-to : goal.overflow_add-to
-overflow_add-to c = omega (arith, (inside c.before.before.before.before.before).1)
-
-pub overflow_add-to-in-loop-j : goal.overflow_add-to-in-loop-j
-overflow_add-to-in-loop-j c = omega (arith, (inside c.before.before.before.before.before).1)
-
-pub blacken-requires : goal.blacken-requires
-blacken-requires c =
-    let copy-row = c.copy_row in
-    (search rules, omega (arith, copy-row.auto.dst, (inside c.before.before.before.before.before.before).1))
-
-pub overflow_add-from : goal.overflow_add-from
-overflow_add-from c = omega (arith, (inside c.before.before.before.before.before.before.before.before.before).0)
-
-pub overflow_add-to-in-loop-j-2 : goal.overflow_add-to-in-loop-j-2
-overflow_add-to-in-loop-j-2 c = omega (arith, (inside c.before.before.before.before.before.before.before.before.before).1)
+    let j = c.in-Some.j in
+    let there = row_there p c.requires.0 (length c.loop-j.yielded) c.in-Some.line.now _ (sym v.left ∙ t.0.1.0) (t.0.1.1 ∙ v.size) c.requires.1 in
+    let room : j * W + W ≤ length c.loop-j.dst = omega (arith, row_fits W j args.height (omega (arith, there, t.1, v.count)), c.loop-j.auto.dst, c.requires.3) in
+    search rules
 
 pub loop-j-preserved : goal.loop-j-preserved
 loop-j-preserved c =
+    let args = c.args in
     let turn = c.loop-j in
-    let loop-test = c.loop-j-test in
-    let copy-row = c.copy_row in
-    let blacken = c.blacken in (
-      blacken.auto.dst ∙ copy-row.auto.dst ∙ turn.invariant.0,
-      search rules,
-      grown_more _ c.args.full_width turn.j turn.from turn.to turn.dst _ _ turn.invariant.2 loop-test.true c.requires.2
-          copy-row.ensures blacken.ensures,
-    )
+    let v = turn.invariant in
+    let t = c.in-Some.ensures.steps in
+    let p = picture args.width args.height args.pixels.now in
+    let w = args.width in
+    let W = args.full_width in
+    let j = c.in-Some.j in
+    let n = length turn.yielded in
+    let line = c.in-Some.line.now in
+    let front = sym v.left ∙ t.0.1.0 in
+    let long = t.0.1.1 ∙ v.size in
+    let there = row_there p c.requires.0 n line _ front long c.requires.1 in
+    let e : j ≡ n = t.1 ∙ v.count in
+    let more = length-append turn.yielded ((j, c.in-Some.line) ∷ []) in
+    let next : (m : ℕ) → length (turn.yielded ++ (j, c.in-Some.line) ∷ []) * m ≡ n * m + m = λ m. ap (λ x. x * m) (more ∙ add-one n) ∙ suc-mul n m in
+    let room : j * W + W ≤ length turn.dst = omega (arith, row_fits W j args.height (omega (arith, there, e)), turn.auto.dst, c.requires.3) in
+    let size : length c.copy_row.new.row ≡ W = c.copy_row.auto.row ∙ length_between 0 turn.dst (j * W) (j * W + W) (omega arith) room ∙ omega arith in
+    let at-row = ap (λ x. x * W) e in
+    record {
+      count = t.2 ∙ ap (λ x. x + 1) v.count ∙ sym more;
+      size = t.0.0 ∙ v.size;
+      left = rows_rest p c.requires.0 n line _ front long c.requires.1 ∙ ap (λ m. drop m p.pixels) (sym (next w));
+      within = omega (arith, more, there);
+      rows = λ k h. below_part (flat p W) (j * W) turn.dst c.copy_row.new.row _ (λ i g. v.rows i (omega (arith, at-row))) (omega arith)
+          (λ i g. c.copy_row.ensures i g ∙ flat_row p c.requires.0 j line _ (ap (λ x. drop (x * w) p.pixels) e ∙ front) long c.requires.1 W i (omega (arith, size)))
+          k (omega (arith, next W, at-row, size));
+      bytes = v.bytes;
+    }
 
--- all rows are inside the grown picture
-pub blacken-requires-2 : goal.blacken-requires-2
-blacken-requires-2 c =
+pub returns-clause-places : goal.returns-clause-places
+unfolding at
+returns-clause-places c =
+    let args = c.args in
     let turn = c.loop-j in
-    let h : turn.to ≤ length turn.dst =
-    omega (arith, turn.invariant.2.target, turn.invariant.0, c.requires.3, mul-le-mul_right c.args.full_width turn.invariant.1) in
-    (omega (arith, h), omega (arith, h))
-
-pub returns : goal.returns
-returns c =
-    let turn = c.loop-j in
-    let blacken2 = c.blacken-2 in
-    λ k h. grown_all _ c.args.full_width _ _ _ _ _ _ turn.invariant.2 c.requires.1 c.loop-j-test.false
-    blacken2.ensures k (omega (arith, blacken2.auto.dst))
+    let v = turn.invariant in
+    let t = c.in-None.ensures.steps in
+    let p = picture args.width args.height args.pixels.now in
+    let W = args.full_width in
+    let n = length turn.yielded in
+    let here = args.height * W in
+    let e = c.fill.ensures.after (λ y h. h) in
+    let room : here ≤ length turn.dst = omega (arith, turn.auto.dst, c.requires.3) in
+    let size = length_between 0 turn.dst here (length turn.dst) room (omega arith) in
+    let all : args.height ≤ n = rows_end p c.requires.0 n (omega (arith, ap length v.left, t.0.1.0, v.size)) in
+    below_last (flat p W) here turn.dst c.fill.new.self (λ k h. v.rows k (omega (arith, mul-le-mul_right W all))) room
+    (c.fill.ensures.len ∙ size)
+    (λ k h.
+    ap (λ l. at l k) e
+    ∙ get_or-replicate _ k 0 0 (omega (arith, c.fill.ensures.len))
+    ∙ flat_black p W args.height (omega arith) (omega arith) (here + k) (omega arith))

@@ -1,7 +1,7 @@
--- `passes::rows::slide` meets its contract: up to k the sums stand in dst, and total is the last of them.
+-- `passes::rows::slide` meets its contract: up to start + k the sums stand in dst, and total is the last of them.
 -- Assumes nothing.
 use mathlib.Core.Path.{◌≡◌}
-use Prim.Native.Nat.{◌-◌, ◌≤◌, min}
+use Prim.Native.Nat.{◌+◌, ◌≤◌}
 use lib.ListN.{length}
 use Rattle.laws.proofs.Sequences.{behind}
 use Rattle.laws.proofs.Kernels.{at}
@@ -12,7 +12,4 @@ use Rattle.passes.proofs.rows.slide.Given as goal
 abbrev pub invariant-loop-k : goal.invariant-loop-k
 invariant-loop-k l =
     let f = spread 1 l.n (at l.src) in
-    (l.k-end ≡ length l.src) × (length l.dst ≡ length l.initial.dst) × (min l.n (length l.src) ≤ l.k) × (l.k ≤ l.k-end) × (l.total ≡ behind f 1 l.k) × Below l.k f l.dst
-
-abbrev pub decreases-loop-k : goal.decreases-loop-k
-decreases-loop-k l = l.k-end - l.k
+    record { within : l.start + l.k ≤ length l.src; total : l.total ≡ behind f 1 (l.start + l.k); sums : Below (l.start + l.k) f l.dst }

@@ -6,7 +6,7 @@ use Rattle.spec.specs.Picture.{full_width_of, full_height_of}
 use Rattle.spec.specs.Stream.{stream_cells, row_cost, cascade_cost, cascade_cells}
 use Rattle.laws.proofs.Refusals.{is_sized}
 use Rattle.laws.proofs.Exact.{rows_pos, columns_pos}
-use Rattle.filter.proofs.Widths.{length_widths}
+use Rattle.laws.proofs.Boxes.{length_widths}
 use Rattle.stream.specs.Stages.{entering, worked}
 use Rattle.stream.specs.Calls.{state_of, called, next, steps}
 use Rattle.stream.proofs.States.{ready_wide}

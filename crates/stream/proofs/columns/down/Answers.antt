@@ -1,127 +1,109 @@
 -- What `search` does not find of `columns::down`.
-use Rattle.std.proofs.Common.{◌≡◌, ◌+◌, ◌-◌, ◌*◌, ◌≤◌, length, take, drop, sym, refl, ap, ◌∙◌, ap₂, le_trans, le_of_eq, mul-le-mul, arith}
+use Rattle.std.proofs.Common.{◌≡◌, ℕ, ◌+◌, ◌-◌, ◌*◌, ◌≤◌, List, ◌++◌, length, take, drop, sym, refl, ap, ◌∙◌, ap₂, le_trans, le_of_eq, arith, take-append-drop, rules, eqb-true}
 use Rattle.spec.specs.Words.{total}
-use Rattle.spec.specs.Recipe.{widths}
-use Rattle.spec.specs.Stream.{box_cost, cascade_cost}
-use Rattle.filter.proofs.Widths.{length_widths}
-use Rattle.laws.proofs.Slices.{length_lent}
-use Rattle.stream.specs.Stages.{Worked, column_stage, stages}
+use Rattle.spec.specs.Stream.{box_cost, cascade_cells, cascade_cost}
+use Rattle.stream.specs.Stages.{column_stage, stages}
 use Rattle.stream.proofs.Boxes.{cascade_small}
-use Rattle.stream.proofs.Groups.{done_none, done_length, done_room, done_count, done_more, done_all}
-use Rattle.stream.proofs.Runs.{run_inside}
+use Rattle.stream.proofs.Groups.{Done, done_none, done_room, done_count, done_more, done_all}
 use Rattle.stream.proofs.Blocks.{cells_of}
 use Rattle.stream.proofs.Sweeps.{columns_keep, group_size}
-use Rattle.stream.proofs.columns.down.Lts
-use Rattle.stream.proofs.columns.down.Reads
-use Rattle.stream.proofs.columns.down.Tie
 use Rattle.stream.proofs.columns.down.Goals as goal
 
-pub loop-j-init : goal.loop-j-init
-loop-j-init c =
+pub loop-rest-init : goal.loop-rest-init
+loop-rest-init c =
     let a = c.args in
     let w = length a.row.now in
-    (refl, refl, refl, le_trans (le_of_eq (group_size w (widths a.list))) c.requires.3, done_none (cells_of w) box_cost (column_stage a.emitted) (widths a.list) a.row.now a.cells.now)
+    record {
+      wide = refl;
+      long = refl;
+      few = search rules;
+      room = le_trans (le_of_eq (group_size w a.widths.now)) c.requires.3;
+      worked = done_none (cells_of w) box_cost (column_stage a.emitted) a.widths.now a.row.now a.cells.now;
+    }
 
-pub run-k-requires : goal.run-k-requires
-run-k-requires c = (omega (arith, c.loop-j.invariant.0), c.requires.0)
-
--- the group is inside the list
-inside : (c : Lts.After-run Tie.the-claims Reads.Pre Reads.Post goal.the-invariant-loop-j goal.the-decreases-loop-j) → c.loop-j.j + c.run-k.result ≤ length (widths c.args.list)
-inside c = run_inside (widths c.args.list) c.loop-j.j c.run-k.result c.run-k.ensures
-
-pub group_cells-requires : goal.group_cells-requires
-group_cells-requires c = (omega (arith, inside (c), length_widths c.args.list), c.requires.0)
+-- a group and the widths after it
+halves : (k : ℕ) (xs ms later : List ℕ) → ms ≡ take k xs → later ≡ drop k xs → xs ≡ ms ++ later
+halves k xs ms later p q = sym (take-append-drop k xs) ∙ ap₂ ◌++◌ (sym p) (sym q)
 
 -- its cells are there, and the count stays small
-next : (c : Lts.After-group_cells Tie.the-claims Reads.Pre Reads.Post goal.the-invariant-loop-j goal.the-decreases-loop-j) → let now = c.loop-j in let a = c.args in
-    let ms = take c.run-k.result (drop now.j (widths a.list)) in
-    record {
-      room : now.start + length now.row * c.group_cells.result ≤ length now.cells;
-      size : length now.row * c.group_cells.result ≡ total (cells_of (length a.row.now)) ms;
-      few : length now.row * c.group_cells.result ≤ 1279 * (255 * 48);
-      small : now.sum + length a.row.now * total box_cost ms ≤ 1279 * 96;
-    }
-next c =
-    let now = c.loop-j in
-    let a = c.args in
-    let k = c.run-k.result in
-    let w = length a.row.now in
-    let keeps = columns_keep a.emitted w in
-    let in_List = inside c.before in
-    let n = c.group_cells in
-    let size : length now.row * n.result ≡ total (cells_of w) (take k (drop now.j (widths a.list))) =
-    ap₂ ◌*◌ now.invariant.1 n.ensures.0 ∙ sym (group_size w _) in
-    let wide : length now.row ≤ 1279 = omega (arith, now.invariant.1, c.requires.2) in
-    let most : n.result ≤ 255 * 48 = omega (arith, n.ensures.1, in_List, length_widths a.list, c.requires.0) in
-    record {
-      size = size;
-      room = omega (arith, size, done_room (cells_of w) box_cost (column_stage a.emitted) (widths a.list) a.row.now a.cells.now keeps now.invariant.3 now.j _ _ _ _ now.invariant.4 k in_List);
-      few = mul-le-mul wide most;
-      small = le_trans (done_count (cells_of w) box_cost (column_stage a.emitted) (widths a.list) a.row.now a.cells.now keeps now.invariant.3 now.j _ _ _ _ now.invariant.4 k in_List) (cascade_small a.list w c.requires.0 c.requires.2);
-    }
+module _ (e : ℕ) (ns row₀ cells₀ rest row cells : List ℕ) (start sum : ℕ) (short : length ns ≤ 48) (narrow : length row₀ ≤ 1279)
+    (room : total (cells_of (length row₀)) ns ≤ length cells₀) (wide : length row ≡ length row₀)
+    (d : Done (cells_of (length row₀)) box_cost (column_stage e) ns row₀ cells₀ rest row cells start sum)
+    (ms later : List ℕ) (split : rest ≡ ms ++ later) (n : ℕ) (is : n ≡ cascade_cells ms) where
+  group_cells : length row * n ≡ total (cells_of (length row₀)) ms
+  group_cells = ap₂ ◌*◌ wide is ∙ sym (group_size (length row₀) ms)
 
-pub overflow_mul-end : goal.overflow_mul-end
-overflow_mul-end c = record { fits = omega (arith, (next (c)).few) }
+  group_inside : start + length row * n ≤ length cells
+  group_inside =
+      omega (arith, group_cells, done_room (cells_of (length row₀)) box_cost (column_stage e) ns row₀ cells₀ (columns_keep e (length row₀)) room rest row cells start sum d ms later split)
+
+  group_counted : sum + length row * cascade_cost ms ≤ 1279 * 96
+  unfolding cascade_cost
+  group_counted =
+      le_trans (le_of_eq (ap (λ w. sum + w * total box_cost ms) wide))
+      (le_trans (done_count (cells_of (length row₀)) box_cost (column_stage e) ns row₀ cells₀ (columns_keep e (length row₀)) room rest row cells start sum d ms later split)
+      (cascade_small ns (length row₀) short narrow))
 
 pub overflow_add-end : goal.overflow_add-end
-overflow_add-end c = record { fits = omega (arith, (next (c)).room) }
+overflow_add-end c =
+    let a = c.args in
+    let now = c.loop-rest in
+    let inside = group_inside a.emitted a.widths.now a.row.now a.cells.now _ _ _ _ _ c.requires.0 c.requires.2 now.invariant.room now.invariant.wide now.invariant.worked
+    _ _ (halves _ _ _ _ c.split_at.ensures.front c.split_at.ensures.back) _ c.cascade_cells.ensures.0 in
+    record { fits = omega (arith, inside) }
 
 pub offset_bounds-cells-start : goal.offset_bounds-cells-start
-offset_bounds-cells-start c = record { fits = omega (arith, (next c.before).room) }
+offset_bounds-cells-start c =
+    let a = c.args in
+    let now = c.loop-rest in
+    let inside = group_inside a.emitted a.widths.now a.row.now a.cells.now _ _ _ _ _ c.requires.0 c.requires.2 now.invariant.room now.invariant.wide now.invariant.worked
+    _ _ (halves _ _ _ _ c.split_at.ensures.front c.split_at.ensures.back) _ c.cascade_cells.ensures.0 in
+    record { fits = omega (arith, inside) }
 
 pub slice_bounds-group-end : goal.slice_bounds-group-end
-slice_bounds-group-end c = omega (arith, (next c.before).room)
-
-pub group-sum-requires : goal.group-sum-requires
-group-sum-requires c =
-    let now = c.loop-j in
-    let k = next c.before.before in
-    let n = c.group_cells in (
-      c.requires.0,
-      omega (arith, now.invariant.1, c.requires.2),
-      c.run-k.ensures,
-      length_lent now.start (length now.row * n.result) now.cells k.room ∙ ap (λ i. length now.row * i) n.ensures.0,
-    )
-
--- what the group adds to the count
-added : (c : Lts.After-group Tie.the-claims Reads.Pre Reads.Post goal.the-invariant-loop-j goal.the-decreases-loop-j) → let now = c.loop-j in let a = c.args in
-    c.group-sum.result ≡ length a.row.now * total box_cost (take c.run-k.result (drop now.j (widths a.list)))
-unfolding cascade_cost
-added c =
-    let now = c.loop-j in
-    let ms = take c.run-k.result (drop now.j (widths c.args.list)) in
-    c.group-sum.ensures.0 ∙ ap (λ w. w * total box_cost ms) now.invariant.1
+slice_bounds-group-end c =
+    let a = c.args in
+    let now = c.loop-rest in
+    let inside = group_inside a.emitted a.widths.now a.row.now a.cells.now _ _ _ _ _ c.requires.0 c.requires.2 now.invariant.room now.invariant.wide now.invariant.worked
+    _ _ (halves _ _ _ _ c.split_at.ensures.front c.split_at.ensures.back) _ c.cascade_cells.ensures.0 in
+    omega (arith, inside)
 
 pub overflow_add-sum : goal.overflow_add-sum
-overflow_add-sum c = record { fits = omega (arith, (next c.before.before.before.before.before.before.before.before).small, added c.before.before.before.before.before) }
-
-pub overflow_add-j : goal.overflow_add-j
-overflow_add-j c = record { fits = omega (arith, inside c.before.before.before.before.before.before.before.before.before, length_widths c.args.list, c.requires.0) }
-
-pub loop-j-smaller : goal.loop-j-smaller
-loop-j-smaller c = omega (arith, c.run-k.ensures.some)
-
-pub loop-j-preserved : goal.loop-j-preserved
-loop-j-preserved c =
-    let now = c.loop-j in
+overflow_add-sum c =
     let a = c.args in
+    let now = c.loop-rest in
+    let few = group_counted a.emitted a.widths.now a.row.now a.cells.now _ _ _ _ _ c.requires.0 c.requires.2 now.invariant.room now.invariant.wide now.invariant.worked
+    _ _ (halves _ _ _ _ c.split_at.ensures.front c.split_at.ensures.back) _ c.cascade_cells.ensures.0 in
+    record { fits = omega (arith, few, c.group-sum.ensures.0) }
+
+pub loop-rest-preserved : goal.loop-rest-preserved
+unfolding cascade_cost
+loop-rest-preserved c =
+    let a = c.args in
+    let now = c.loop-rest in
     let w = length a.row.now in
-    let k = c.run-k.result in
-    let done = c.group-sum in
-    let room = next c.before.before.before.before.before.before.before.before in
-    let keeps = columns_keep a.emitted w in
-    let part = take (now.start + length now.row * c.group_cells.result - now.start) (drop now.start now.cells) in
-    let same : stages (cells_of (length now.row)) (column_stage a.emitted) (take k (drop now.j (widths a.list))) now.row part ≡ stages (cells_of w) (column_stage a.emitted) (take k (drop now.j (widths a.list))) now.row part =
-    ap (λ v. stages (cells_of v) (column_stage a.emitted) (take k (drop now.j (widths a.list))) now.row part) now.invariant.1 in
-    let d = done_more (cells_of w) box_cost (column_stage a.emitted) (widths a.list) a.row.now a.cells.now keeps now.invariant.3 now.j now.row now.cells now.start now.sum now.invariant.4 k (inside c.before.before.before.before.before.before.before.before.before)
-    (now.start + length now.row * c.group_cells.result) done.result part _ _ (ap (λ i. now.start + i) room.size) (added c.before.before.before.before.before) refl
-    (done.ensures.1 ∙ ap (λ (o : Worked). o.row) same) (done.ensures.2 ∙ ap (λ (o : Worked). o.cells) same) in
-    let l = done_length (cells_of w) box_cost (column_stage a.emitted) (widths a.list) a.row.now a.cells.now keeps now.invariant.3 _ _ _ _ _ d in
-    (now.invariant.0, l.0, l.1, now.invariant.3, d)
+    let so = c.group-sum.ensures in
+    let ms = c.split_at.result.0.now in
+    let later = c.split_at.result.1.now in
+    let part = take (now.start + length now.row * c.cascade_cells.result - now.start) (drop now.start now.cells) in
+    let split = halves _ now.rest.now ms later c.split_at.ensures.front c.split_at.ensures.back in
+    let size = group_cells a.emitted a.widths.now a.row.now a.cells.now _ _ _ _ _ c.requires.0 c.requires.2 now.invariant.room now.invariant.wide now.invariant.worked
+    ms later split _ c.cascade_cells.ensures.0 in
+    record {
+      wide = c.group-sum.auto.row ∙ now.invariant.wide;
+      long = search rules;
+      few = search rules;
+      room = now.invariant.room;
+      worked =
+          done_more (cells_of w) box_cost (column_stage a.emitted) a.widths.now a.row.now a.cells.now (columns_keep a.emitted w) now.invariant.room _ _ _ _ _ now.invariant.worked
+          ms later split _ _ _ _ _ (ap (λ k. now.start + k) size) (so.0 ∙ ap (λ n. n * total box_cost ms) now.invariant.wide) refl
+          (so.1 ∙ ap (λ n. (stages (cells_of n) (column_stage a.emitted) ms now.row part).row) now.invariant.wide)
+          (so.2 ∙ ap (λ n. (stages (cells_of n) (column_stage a.emitted) ms now.row part).cells) now.invariant.wide);
+    }
 
 pub returns : goal.returns
 unfolding cascade_cost
 returns c =
-    let now = c.loop-j in
     let a = c.args in
-    done_all (cells_of (length a.row.now)) box_cost (column_stage a.emitted) (widths a.list) a.row.now a.cells.now _ _ _ _ _ now.invariant.4 (omega (arith, length_widths a.list, now.invariant.0))
+    done_all (cells_of (length a.row.now)) box_cost (column_stage a.emitted) a.widths.now a.row.now a.cells.now _ _ _ _ _ c.loop-rest.invariant.worked
+    (eqb-true (length c.loop-rest.rest.now) 0 (sym c.is_empty.ensures ∙ c.loop-rest-test.false))

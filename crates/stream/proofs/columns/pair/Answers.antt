@@ -27,7 +27,7 @@ loop-k-preserved c =
       simp length-set turn.invariant.2,
       search rules,
       rightwards_more (made old was) old _ turn.invariant.4 (search rules)
-          (c.wrapping_add_u64.ensures.value ∙ ap₂ plus e stood),
+          (ap₂ plus e stood),
       rightwards_more (kept old) was _ turn.invariant.5 inside e,
     )
 

@@ -1,6 +1,6 @@
 -- `stream::columns::pair` meets its contract: the values and the cells are written from the left.
 -- Assumes nothing.
-use Rattle.std.proofs.Common.{◌≡◌, ℕ, ◌-◌, ◌≤◌, List, length, get_or}
+use Rattle.std.proofs.Common.{◌≡◌, ℕ, ◌≤◌, List, length, get_or}
 use Rattle.laws.proofs.Slices.{Rightwards}
 use Rattle.stream.specs.Stages.{plus}
 use Rattle.stream.proofs.columns.pair.Given as goal
@@ -16,6 +16,3 @@ abbrev pub invariant-loop-k : goal.invariant-loop-k
 invariant-loop-k l =
     (l.k-end ≡ length l.initial.x) × (length l.x ≡ length l.initial.x) × (length l.own ≡ length l.initial.own) × (l.k ≤ l.k-end)
     × Rightwards (made l.initial.x l.initial.own) l.initial.x l.k l.x × Rightwards (kept l.initial.x) l.initial.own l.k l.own
-
-abbrev pub decreases-loop-k : goal.decreases-loop-k
-decreases-loop-k l = l.k-end - l.k

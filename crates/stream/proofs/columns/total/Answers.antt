@@ -2,7 +2,7 @@
 use Rattle.laws.proofs.Slices.{rightwards_none, rightwards_more, rightwards_all}
 use Rattle.spec.specs.Words.{tab}
 use Rattle.stream.specs.Stages.{plus}
-use Rattle.std.proofs.Common.{◌<◌, length, ap, ◌∙◌, arith, length-set, rules}
+use Rattle.std.proofs.Common.{◌<◌, length, refl, ap, ◌∙◌, arith, length-set, rules}
 use Rattle.stream.proofs.columns.total.Invariants.{made}
 use Rattle.stream.proofs.columns.total.Goals as goal
 
@@ -22,7 +22,7 @@ loop-k-preserved c =
       turn.invariant.2,
       simp length-set turn.invariant.3,
       search rules,
-      rightwards_more (made a.x.now a.before.now) a.totals.now _ turn.invariant.5 inside c.wrapping_add_u64.ensures.value,
+      rightwards_more (made a.x.now a.before.now) a.totals.now _ turn.invariant.5 inside refl,
     )
 
 pub returns : goal.returns

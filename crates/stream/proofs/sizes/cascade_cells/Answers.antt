@@ -1,20 +1,19 @@
 -- What `search` does not find of `sizes::cascade_cells`.
-use Rattle.std.proofs.Common.{refl, arith, rules}
+use Rattle.std.proofs.Common.{arith, rules}
 use Rattle.spec.specs.Stream.{box_cells, cascade_cells}
 use Rattle.filter.proofs.Widths.{summed_none, summed_more, summed_all}
 use Rattle.stream.proofs.sizes.cascade_cells.Goals as goal
 
-pub loop-i-init : goal.loop-i-init
-loop-i-init c = summed_none box_cells 255 c.args.list _ refl
+pub loop-n-init : goal.loop-n-init
+loop-n-init c = summed_none box_cells 255 c.args.widths.now
 
-pub loop-i-preserved : goal.loop-i-preserved
-loop-i-preserved c =
-    let now = c.loop-i in
-    summed_more box_cells 255 c.args.list _ now.i now.invariant _ c.box_cells-cells.result (search rules) c.width_at.ensures
-    c.box_cells-cells.ensures.0 c.box_cells-cells.ensures.1
+pub loop-n-preserved : goal.loop-n-preserved
+loop-n-preserved c =
+    let cells = c.box_cells-cells.ensures in
+    summed_more box_cells 255 c.args.widths.now c.loop-n.n-index c.loop-n.invariant _ (search rules) cells.0 cells.1
 
 pub returns : goal.returns
 unfolding cascade_cells
 returns c =
-    let now = c.loop-i in
-    (summed_all box_cells 255 c.args.list _ now.i now.invariant c.loop-i-test.false, omega arith)
+    let now = c.loop-n in
+    (summed_all box_cells 255 c.args.widths.now now.n-index now.invariant c.loop-n-test.false, omega (arith, now.invariant.small))
