@@ -68,8 +68,10 @@ fn pass(step: usize, n: usize, src: &[u64], dst: &mut [u64])
 impl<'a> Buffers<'a> {
     // The grown picture in the buffer that is to hold it.
     pub(crate) fn place(&mut self, image: Image, full_width: usize)
-        requires { (length image.pixels.now ≡ image.width * image.height) × (0 < image.width) × (image.width ≤ full_width)
-            × (image.height * full_width ≤ length self.old.out.now) }
+        requires size { length image.pixels.now ≡ image.width * image.height }
+        requires wide { 0 < image.width }
+        requires row { image.width ≤ full_width }
+        requires room { image.height * full_width ≤ length self.old.out.now }
         ensures same { SameBuffers self.old self.new }
         ensures holder { self.new.holder ≡ self.old.holder }
         ensures places { Below (length self.old.out.now) (flat (pictured image.entry) full_width) (held self.new) }
@@ -108,8 +110,10 @@ impl<'a> Buffers<'a> {
 
     // The widths of a list in turn.
     fn cascade(&mut self, boxes: &[u8], step: usize)
-        requires { (0 < weight boxes.now) × (0 < step) × (255 * step ≤ 2 ^ 32)
-            × Small (length self.old.out.now) (cascaded step boxes.now (at (held self.old))) }
+        requires not_zero { 0 < weight boxes.now }
+        requires apart { 0 < step }
+        requires offsets { 255 * step ≤ 2 ^ 32 }
+        requires small { Small (length self.old.out.now) (cascaded step boxes.now (at (held self.old))) }
         ensures same { SameBuffers self.old self.new }
         ensures holder { self.new.holder ≡ turned_by boxes.now self.old.holder }
         ensures sums { Below (length self.old.out.now) (cascaded step boxes.now (at (held self.old))) (held self.new) }
@@ -121,8 +125,10 @@ impl<'a> Buffers<'a> {
 
     // A filter's row widths and then its column widths, in rows of full_width places.
     pub(crate) fn carry(&mut self, filter: Filter, full_width: usize)
-        requires { Accepted (recipe filter) × (0 < full_width) × (255 * full_width ≤ 2 ^ 32)
-            × Small (length self.old.out.now) (filtered (recipe filter) full_width (at (held self.old))) }
+        requires accepted { Accepted (recipe filter) }
+        requires wide { 0 < full_width }
+        requires offsets { 255 * full_width ≤ 2 ^ 32 }
+        requires small { Small (length self.old.out.now) (filtered (recipe filter) full_width (at (held self.old))) }
         ensures same { SameBuffers self.old self.new }
         ensures holder { self.new.holder ≡ turned_all (recipe filter) self.old.holder }
         ensures sums { Below (length self.old.out.now) (filtered (recipe filter) full_width (at (held self.old))) (held self.new) }

@@ -81,9 +81,13 @@ fn rung_at(axes: Axes, i: usize) -> Filter
 // The levels up to the one that is named, on what the buffers hold in rows of full_width places: level 1
 // by its whole recipe, and each further level by its one new width from the sums of the level below.
 fn levels(level: usize, axes: Axes, full_width: usize, buffers: &mut Buffers)
-    requires { let r = ladderOf (axes_of axes) level in
-        (0 < level) × (level ≤ 8) × Accepted r × (0 < full_width) × (255 * full_width ≤ 2 ^ 32)
-        × Small (length buffers.old.out.now) (filtered r full_width (at (held buffers.old))) }
+    requires first { 0 < level }
+    requires last { level ≤ 8 }
+    requires accepted { Accepted (ladderOf (axes_of axes) level) }
+    requires wide { 0 < full_width }
+    requires offsets { 255 * full_width ≤ 2 ^ 32 }
+    requires small { let r = ladderOf (axes_of axes) level in
+        Small (length buffers.old.out.now) (filtered r full_width (at (held buffers.old))) }
     ensures same { SameBuffers buffers.old buffers.new }
     ensures holder { buffers.new.holder ≡ turned_all (ladderOf (axes_of axes) level) buffers.old.holder }
     ensures sums { let r = ladderOf (axes_of axes) level in
@@ -104,10 +108,12 @@ fn climb(
     out: &mut [u64],
     work: &mut [u64],
 )
-    requires { let p = pictured image in let r = ladderOf (axes_of axes) level in
-        (0 < level) × (level ≤ 8) × AcceptedPicture r p
-        × (full_width ≡ full_width_of r image.width)
-        × (length out.old ≡ full_size r p) × (length work.old ≡ length out.old) }
+    requires first { 0 < level }
+    requires last { level ≤ 8 }
+    requires accepted { AcceptedPicture (ladderOf (axes_of axes) level) (pictured image) }
+    requires grown_width { full_width ≡ full_width_of (ladderOf (axes_of axes) level) image.width }
+    requires output { length out.old ≡ full_size (ladderOf (axes_of axes) level) (pictured image) }
+    requires paired { length work.old ≡ length out.old }
     ensures { out.new ≡ full (ladderOf (axes_of axes) level) (pictured image.entry) }
 {
     let mut buffers = Buffers {

@@ -7,8 +7,9 @@ ghost use Rattle.passes.specs.Steps.{Below, Ready};
 
 // A row, or its first places, from which nothing is to be taken away yet.
 fn added_row(above: &[u64], coming: &[u64], row: &mut [u64])
-    requires { (length row.old ≤ length above.now) × (length row.old ≤ length coming.now)
-        × ((k : ℕ) → k < length row.old → at above.now k + at coming.now k ≤ 2 ^ 61) }
+    requires above_long { length row.old ≤ length above.now }
+    requires coming_long { length row.old ≤ length coming.now }
+    requires fits { (k : ℕ) → k < length row.old → at above.now k + at coming.now k ≤ 2 ^ 61 }
     ensures { Below (length row.old) (λ k. at above.now k + at coming.now k) row.new }
 {
     for (i, sum) in row.iter_mut().enumerate() {
@@ -18,9 +19,11 @@ fn added_row(above: &[u64], coming: &[u64], row: &mut [u64])
 
 // Any other row.
 fn slid_row(above: &[u64], coming: &[u64], going: &[u64], row: &mut [u64])
-    requires { (length row.old ≤ length above.now) × (length row.old ≤ length coming.now) × (length row.old ≤ length going.now)
-        × ((k : ℕ) → k < length row.old → at above.now k + at coming.now k ≤ 2 ^ 61)
-        × ((k : ℕ) → k < length row.old → at going.now k ≤ at above.now k + at coming.now k) }
+    requires above_long { length row.old ≤ length above.now }
+    requires coming_long { length row.old ≤ length coming.now }
+    requires going_long { length row.old ≤ length going.now }
+    requires fits { (k : ℕ) → k < length row.old → at above.now k + at coming.now k ≤ 2 ^ 61 }
+    requires enough { (k : ℕ) → k < length row.old → at going.now k ≤ at above.now k + at coming.now k }
     ensures { Below (length row.old) (λ k. at above.now k + at coming.now k - at going.now k) row.new }
 {
     for (i, sum) in row.iter_mut().enumerate() {
@@ -30,8 +33,12 @@ fn slid_row(above: &[u64], coming: &[u64], going: &[u64], row: &mut [u64])
 
 // One row below the first, or its first places.
 fn next_row(step: usize, n: usize, here: usize, width: usize, src: &[u64], dst: &mut [u64])
-    requires { Ready step n src.now dst.old × (step ≤ here) × (width ≤ step) × (here + width ≤ length src.now)
-        × (here < n * step → here + step ≤ n * step) × Below here (spread step n (at src.now)) dst.old }
+    requires ready { Ready step n src.now dst.old }
+    requires below { step ≤ here }
+    requires short { width ≤ step }
+    requires inside { here + width ≤ length src.now }
+    requires whole { here < n * step → here + step ≤ n * step }
+    requires sums { Below here (spread step n (at src.now)) dst.old }
     ensures { Below (here + width) (spread step n (at src.now)) dst.new }
 {
     let span = n * step;

@@ -17,7 +17,10 @@ fn copy_row(pixels: &[u8], row: &mut [u64])
 
 // All rows of the picture, in rows of full_width places, and black to their right and below them.
 pub(crate) fn grow(width: usize, height: usize, full_width: usize, pixels: &[u8], dst: &mut [u64])
-    requires { (length pixels.now ≡ width * height) × (0 < width) × (width ≤ full_width) × (height * full_width ≤ length dst.old) }
+    requires size { length pixels.now ≡ width * height }
+    requires wide { 0 < width }
+    requires row { width ≤ full_width }
+    requires room { height * full_width ≤ length dst.old }
     ensures places { Holds (flat (picture width height pixels.now) full_width) dst.new }
     ensures bytes { Within largest_gray (picture width height pixels.now) }
 {

@@ -28,10 +28,10 @@ use spec::{Filter, Image, Refusal};
 // The passes of an accepted recipe over an accepted picture. They go from one buffer to the other and
 // back, and begin so that the last ends in `out`.
 fn run(filter: Filter, image: Image, full_width: usize, out: &mut [u64], work: &mut [u64])
-    requires { let p = pictured image in
-        AcceptedPicture (recipe filter) p
-        × (full_width ≡ full_width_of (recipe filter) image.width)
-        × (length out.old ≡ full_size (recipe filter) p) × (length work.old ≡ length out.old) }
+    requires accepted { AcceptedPicture (recipe filter) (pictured image) }
+    requires grown_width { full_width ≡ full_width_of (recipe filter) image.width }
+    requires output { length out.old ≡ full_size (recipe filter) (pictured image) }
+    requires paired { length work.old ≡ length out.old }
     ensures { out.new ≡ full (recipe filter) (pictured image.entry) }
 {
     let mut buffers = Buffers {

@@ -22,9 +22,9 @@ fn rise(n: usize, src: &[u64], dst: &mut [u64]) -> u64
 
 // The other places: at each, a place comes in, and the one n places back goes out.
 fn slide(n: usize, first: u64, src: &[u64], dst: &mut [u64])
-    requires { Ready 1 n src.now dst.old
-        × (first ≡ behind (spread 1 n (at src.now)) 1 (min n (length src.now)))
-        × Below (min n (length src.now)) (spread 1 n (at src.now)) dst.old }
+    requires ready { Ready 1 n src.now dst.old }
+    requires before { first ≡ behind (spread 1 n (at src.now)) 1 (min n (length src.now)) }
+    requires sums { Below (min n (length src.now)) (spread 1 n (at src.now)) dst.old }
     ensures { Holds (spread 1 n (at src.now)) dst.new }
 {
     let start = n.min(src.len());

@@ -41,6 +41,10 @@ ring n v k = tab n (λ p. sum (covered n k p) v % 2 ^ 64)
 
 -- how many cells a box has, what it costs, and what its stage makes, by its width
 module _ (n : ℕ) where
+  cells_one : n < 2 → box_cells n ≡ 0
+  unfolding box_cells
+  cells_one h = rw (lt-ltb n 2 h) refl
+
   pub cells_two : n ≡ 2 → box_cells n ≡ 1
   unfolding box_cells
   cells_two e = rw e refl
@@ -87,14 +91,6 @@ module _ (n : ℕ) where
       unfolding column_stage
       column_wide h = rw (le-ltb n 2 (omega arith), ne_eqb n 2 (λ d. omega arith)) refl
 
--- a width that is neither below 2 nor 2
-pub two_less : (n : ℕ) → 2 ≤ n → (n ≡ 2 → ⊥) → 2 < n
-two_less n h d =
-    elim (dec_lt 2 n) [
-      | yes g ↦ g
-      | no g ↦ let e : n ≡ 2 = omega arith in absurd (d e)
-    ]
-
 pub cost_most : (n : ℕ) → box_cost n ≤ 2
 cost_most n =
     elim (dec_lt n 2) [
@@ -111,3 +107,20 @@ pub cascade_small : (ns : List ℕ) (w : ℕ) → length ns ≤ 48 → w ≤ 127
 cascade_small ns w h k =
     let n : total box_cost ns ≤ 96 = omega (arith, total_most box_cost 2 cost_most ns) in
     mul-le-mul k n
+
+-- so are the cells of widths that are bytes
+cells_most : (n : ℕ) → n ≤ 255 → box_cells n ≤ 255
+cells_most n h =
+    elim (dec_lt n 2) [
+      | yes g ↦ omega (arith, cells_one n g)
+      | no g ↦
+          elim (dec_lt 2 n) [
+            | yes l ↦ omega (arith, cells_wide n l)
+            | no l ↦ let e : n ≡ 2 = omega arith in omega (arith, cells_two n e)
+          ]
+    ]
+
+pub cells_few : (ns : List ℕ) → ((k : ℕ) → get_or ns k 0 ≤ 255) → total box_cells ns ≤ 255 * length ns
+unfolding total
+cells_few [] h = omega arith
+cells_few (n ∷ ns) h = omega (arith, cells_most n (h 0), cells_few ns (λ k. h (suc k)))

@@ -41,9 +41,6 @@ module _ (ws : List ℕ) (width t : ℕ) (cells₀ : List ℕ) where
     pub counted : sum + width * cascade_cost (drop i ws) ≡ width * cascade_cost ws
     pub weighed : entering * weight (drop i ws) ≡ t * weight ws
 
-  pub keeping_none : Keeping 0 0 0 t cells₀
-  keeping_none = record { cells_are = refl; placed = omega arith; long = refl; counted = omega arith; weighed = refl }
-
   module _ (i from sum entering : ℕ) (cells : List ℕ) (l : Keeping i from sum entering cells) (n : ℕ) (more : drop i ws ≡ n ∷ drop (suc i) ws) where
     -- its cells, its part of the count, and the total after it
     pub next_placed : from + box_cells n + cascade_cells (drop (suc i) ws) ≡ cascade_cells ws

@@ -13,4 +13,3 @@ pub mod Acting
 pub mod Blocks
 pub mod Sweeps
 pub mod States
-pub mod Clearing

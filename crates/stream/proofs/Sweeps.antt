@@ -1,6 +1,6 @@
 -- A sweep over the columns in blocks, and the two kinds of group: what a sweep leaves is the stages of the group, one after the other.
 -- Assumes nothing.
-use Rattle.std.proofs.Common.{◌≡◌, ℕ, suc, ◌+◌, ◌-◌, ◌*◌, ◌%◌, ◌<◌, ◌≤◌, List, [], ◌∷◌, ◌++◌, length, get_or, take, drop, sym, refl, ap, ◌∙◌, subst, ap₂, inl, inr, ⊎_elim, append_assoc, append-nil, le_refl, suc-mul, mul-one, arith, length-append, length-drop, take-append-drop, drop_of_length-le, length-take-le, take_all, get_or-take, drop-drop, take_at, take-add, drop_at}
+use Rattle.std.proofs.Common.{◌≡◌, ℕ, suc, ◌+◌, ◌*◌, ◌%◌, ◌<◌, ◌≤◌, List, [], ◌∷◌, ◌++◌, length, get_or, take, drop, sym, refl, ap, ◌∙◌, subst, ap₂, inl, inr, ⊎_elim, append_assoc, append-nil, le_refl, suc-mul, mul-one, arith, length-append, length-drop, take-append-drop, drop_of_length-le, length-take-le, take_all, get_or-take, drop-drop, take_at, take-add, drop_at}
 use Rattle.spec.specs.Words.{tab, total}
 use Rattle.spec.specs.Stream.{box_cells, box_cost, cascade_cells}
 use Rattle.laws.proofs.Lists.{length_tab, get_d_tab, total_append, total_more, total_scale}
@@ -19,23 +19,11 @@ pub record Swept (f : ℕ → List ℕ → List ℕ → Worked) (row₀ own₀ :
   pub own_is : own ≡ (f 0 (take i row₀) own₀).cells
 
 module _ (w cells : ℕ) (f : ℕ → List ℕ → List ℕ → Worked) (v : Acts w cells f) (row₀ own₀ : List ℕ) (wide : length row₀ ≡ w) (long : length own₀ ≡ cells) where
-  pub swept_none : Swept f row₀ own₀ 0 row₀ own₀
-  swept_none =
-      let e = v.none own₀ long in
-      record { row_is = sym (ap (λ (o : Worked). o.row ++ row₀) e); own_is = sym (ap (λ (o : Worked). o.cells) e) }
-
   -- the lengths of what is worked
   worked_keeps : (i : ℕ) → i ≤ w → Kept i cells (f 0 (take i row₀) own₀)
   worked_keeps i h =
       let n : length (take i row₀) ≡ i = length-take-le i row₀ (omega arith) in
       subst (λ k. Kept k cells (f 0 (take i row₀) own₀)) n (v.keeps 0 (take i row₀) own₀ (omega arith) long)
-
-  pub swept_length : (i : ℕ) (row own : List ℕ) → i ≤ w → Swept f row₀ own₀ i row own → (length row ≡ w) × (length own ≡ cells)
-  swept_length i row own h s =
-      let k = worked_keeps i h in (
-        omega (arith, ap length s.row_is, length-append (f 0 (take i row₀) own₀).row (drop i row₀), length-drop i row₀, k.row),
-        ap length s.own_is ∙ k.cells,
-      )
 
   pub swept_more : (i m : ℕ) (row own row₁ own₁ : List ℕ) → i + m ≤ w → Swept f row₀ own₀ i row own
       → row₁ ≡ take i row ++ ((f i (take m (drop i row)) own).row ++ drop (i + m) row)
@@ -102,10 +90,6 @@ stages_act w cells size act acts ns room f are =
         ∙ ap (λ (o : Worked). record { row = o.row ++ (stages size (act (length x)) ns y o.cells).row; cells = (stages size (act (length x)) ns y o.cells).cells })
         (sym (are 0 x own (omega arith) e))
         ∙ ap (λ (o : Worked). record { row = (f 0 x own).row ++ o.row; cells = o.cells }) (sym (are (length x) y (f 0 x own).cells h kept.cells))
-
--- the columns that are left after the blocks
-pub length_rest : (row : List ℕ) (from : ℕ) → length (take (length row - from) (drop from row)) ≡ length row - from
-length_rest row from = length-take-le (length row - from) (drop from row) (omega (arith, length-drop from row))
 
 -- ---- the groups
 

@@ -1,12 +1,7 @@
 -- Sums, differences and multiples modulo 2^64: what the machine's answers are, and that they follow exact ones.
 -- Assumes nothing.
-use Rattle.std.proofs.Common.{◌≡◌, ℕ, zero, suc, ◌+◌, ◌*◌, ◌%◌, ◌^◌, ◌<◌, suc-mul, zero-mul, arith}
+use Rattle.std.proofs.Common.{◌≡◌, ℕ, zero, suc, ◌+◌, ◌*◌, ◌%◌, ◌^◌, suc-mul, zero-mul, arith}
 use Rattle.stream.specs.Stages.{plus, minus}
-
--- a difference by its machine answer
-pub minus_is : (r a b : ℕ) → r < 2 ^ 64 → b < 2 ^ 64 → (r + b) % 2 ^ 64 ≡ a → r ≡ minus a b
-unfolding minus
-minus_is r a b h l e = omega arith
 
 -- differences and sums of exact sums, each known modulo 2^64
 pub minus_exact : (a b c : ℕ) → c + b ≡ a → minus (a % 2 ^ 64) (b % 2 ^ 64) ≡ c % 2 ^ 64

@@ -18,7 +18,7 @@ trait Stages {
     ghost made: { Self → ℕ → List ℕ → List ℕ → Worked };
 
     // In turn, on at most eight columns from a column on.
-    fn work(&self, from: usize, x: &mut [u64], own: &mut [u64])
+    fn apply(&self, from: usize, x: &mut [u64], own: &mut [u64])
         requires { has self.now (length own.old) × (length x.old ≤ 8) × (from + length x.old ≤ width self.now) }
         ensures { let done = made self.now from x.old own.old in
             (x.new ≡ done.row) × (own.new ≡ done.cells) };
@@ -38,7 +38,7 @@ impl Stages for Pairs {
 
     ghost made = { λ s from. pairs_from from s.width s.count };
 
-    fn work(&self, from: usize, x: &mut [u64], own: &mut [u64]) {
+    fn apply(&self, from: usize, x: &mut [u64], own: &mut [u64]) {
         for s in 0..self.count {
             let at = s * self.width + from;
             let to = at + x.len();
@@ -68,7 +68,7 @@ impl<const N: usize> Stages for Rings<N> {
 
     ghost made = { λ s from. rings_from from s.slots N };
 
-    fn work(&self, from: usize, x: &mut [u64], own: &mut [u64]) {
+    fn apply(&self, from: usize, x: &mut [u64], own: &mut [u64]) {
         for slot in &self.slots {
             ring(x, slot.before + from, slot.oldest + from, own);
         }
@@ -135,7 +135,7 @@ fn block<S: Stages>(stages: &S, from: usize, row: &mut [u64], own: &mut [u64])
     let to = from + 8;
     let mut x = [0u64; 8];
     x.copy_from_slice(&row[from..to]);
-    stages.work(from, &mut x, own);
+    stages.apply(from, &mut x, own);
     row[from..to].copy_from_slice(&x);
 }
 
@@ -151,7 +151,7 @@ fn sweep<S: Stages>(stages: &S, row: &mut [u64], own: &mut [u64])
         block(stages, 8 * k, row, own);
     }
     let from = 8 * blocks;
-    stages.work(from, &mut row[from..], own);
+    stages.apply(from, &mut row[from..], own);
 }
 
 // How many widths at the front lie between two bounds; not more than `longest`.

@@ -34,11 +34,7 @@ pub(crate) fn cascade_cells(widths: &[u8]) -> usize
     requires { length widths.now ≤ 48 }
     ensures { (result ≡ cascade_cells widths.now) × (result ≤ 255 * 48) }
 {
-    let mut cells = 0;
-    for &n in widths {
-        cells += box_cells(n);
-    }
-    cells
+    widths.iter().map(|&n| box_cells(n)).sum()
 }
 
 // The sizes for a recipe and the sides of a picture: refused by 1 to 5.

@@ -28,7 +28,12 @@ run-requires c =
     let p = pictured c.args.image in
     let told = c.in_ok-sides.ensures in
     let k = asked r p _ _ _ told in
-    (k.picture, ap (λ (s : Sides). s.width) (came_sides r p _ _ _ told).1, k.output, part_long r p _ _ _ told)
+    record {
+      accepted = k.picture;
+      grown_width = ap (λ (s : Sides). s.width) (came_sides r p _ _ _ told).1;
+      output = k.output;
+      paired = part_long r p _ _ _ told;
+    }
 
 pub returns : goal.returns
 returns c =

@@ -15,8 +15,8 @@ use Rattle.passes.proofs.climbing.climb.Goals as goal
 
 pub place-requires : goal.place-requires
 place-requires c =
-    let room = picture_room _ _ c.requires.2 c.args.full_width (length c.args.out.now) c.requires.3 c.requires.4 in
-    (c.requires.2.size, c.requires.2.sides.width.0, room.1, room.2)
+    let room = picture_room _ _ c.requires.accepted c.args.full_width (length c.args.out.now) c.requires.grown_width c.requires.output in
+    record { size = c.requires.accepted.size; wide = c.requires.accepted.sides.width.0; row = room.1; room = room.2 }
 
 pub levels-requires : goal.levels-requires
 levels-requires c =
@@ -25,19 +25,19 @@ levels-requires c =
     let p = pictured args.image in
     let W = args.full_width in
     let size = length args.out.now in
-    let a = c.requires.2 in
-    let wide = c.requires.3 in
-    let all = c.requires.4 in
+    let a = c.requires.accepted in
+    let wide = c.requires.grown_width in
+    let all = c.requires.output in
     let t = c.place.ensures in
-    let b = c.place.new.self in (
-      c.requires.0,
-      c.requires.1,
-      a.recipe,
-      (picture_room r p a W size wide all).0,
-      row_short r p a W size wide all,
-      λ k h. picture_small r p a W size wide all (held b) t.places largest_gray (omega arith) t.bytes k
-          (omega (arith, t.same.long)),
-    )
+    let b = c.place.new.self in
+    record {
+      first = c.requires.first;
+      last = c.requires.last;
+      accepted = a.recipe;
+      wide = (picture_room r p a W size wide all).0;
+      offsets = row_short r p a W size wide all;
+      small = λ k h. picture_small r p a W size wide all (held b) t.places largest_gray (omega arith) t.bytes k (omega (arith, t.same.long));
+    }
 
 pub returns : goal.returns
 returns c =
@@ -50,7 +50,7 @@ returns c =
     let begins = ap (λ q. turned_all q c.begins_in.result) (sym c.level_filter.ensures) ∙ c.begins_in.ensures in
     let ends : held b ≡ b.out.now = ap (λ h. present h b.out.now b.work.now) (last.holder ∙ ap (turned_all r) t.holder ∙ begins) in
     let done : b.out.now ≡ full r (pictured args.image) =
-    picture_done _ _ c.requires.2 args.full_width size c.requires.3 c.requires.4 (held c.place.new.self) t.places b.out.now
+    picture_done _ _ c.requires.accepted args.full_width size c.requires.grown_width c.requires.output (held c.place.new.self) t.places b.out.now
     (λ k h. ap (λ l. at l k) (sym ends) ∙ last.sums k (omega (arith, t.same.long)))
     (last.same.long ∙ t.same.long) in
     search rules

@@ -57,7 +57,14 @@ climb-requires c =
     let told = c.in_ok-sides.ensures ∙ of_level c.level_filter-filter.ensures p _ _ in
     let k = asked r p _ _ _ told in
     let good = level_within _ (sym c.bad_level.ensures ∙ c.if-bad_level.false) in
-    (good.0, good.1, k.picture, ap (λ (s : Sides). s.width) (came_sides r p _ _ _ told).1, k.output, part_long r p _ _ _ told)
+    record {
+      first = good.0;
+      last = good.1;
+      accepted = k.picture;
+      grown_width = ap (λ (s : Sides). s.width) (came_sides r p _ _ _ told).1;
+      output = k.output;
+      paired = part_long r p _ _ _ told;
+    }
 
 pub returns : goal.returns
 returns c =

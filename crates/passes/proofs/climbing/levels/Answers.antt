@@ -24,15 +24,16 @@ carry-requires c =
     let a = axes_of args.axes in
     let b = args.buffers.now in
     let size = length b.out.now in
-    let most : args.level + 2 ≤ 10 = omega (arith, q.1) in
-    let up : 3 ≤ args.level + 2 = omega (arith, q.0) in
-    let is = sym c.level_filter.ensures in (
-      subst Accepted is (up_accepted a args.full_width (at (held b)) size (args.level + 2) most q.2 q.5 3 up),
-      q.3,
-      q.4,
-      subst (λ r. Small size (filtered r args.full_width (at (held b)))) is
-          (up_small a args.full_width (at (held b)) size (args.level + 2) most q.2 q.5 3 up),
-    )
+    let most : args.level + 2 ≤ 10 = omega (arith, q.last) in
+    let up : 3 ≤ args.level + 2 = omega (arith, q.first) in
+    let is = sym c.level_filter.ensures in
+    record {
+      accepted = subst Accepted is (up_accepted a args.full_width (at (held b)) size (args.level + 2) most q.accepted q.small 3 up);
+      wide = q.wide;
+      offsets = q.offsets;
+      small = subst (λ r. Small size (filtered r args.full_width (at (held b)))) is
+          (up_small a args.full_width (at (held b)) size (args.level + 2) most q.accepted q.small 3 up);
+    }
 
 pub loop-i-init : goal.loop-i-init
 unfolding ladder
@@ -42,7 +43,7 @@ loop-i-init c =
     let t = c.carry.ensures in
     let is = c.level_filter.ensures in
     record {
-      within = omega (arith, c.requires.0);
+      within = omega (arith, c.requires.first);
       same = t.same;
       holder = t.holder ∙ ap (λ r. turned_all r b.holder) is;
       sums = λ k h. t.sums k h ∙ ap (λ r. filtered r args.full_width (at (held b)) k) is;
@@ -58,18 +59,19 @@ carry-requires-in-loop-i c =
     let b = args.buffers.now in
     let size = length b.out.now in
     let now = held turn.buffers in
-    let most : args.level + 2 ≤ 10 = omega (arith, q.1) in
+    let most : args.level + 2 ≤ 10 = omega (arith, q.last) in
     let is = sym c.rung_at.ensures in
     let more = c.loop-i-test.true in
-    let v = turn.invariant in (
-      subst Accepted is (rung_accepted a args.full_width (at (held b)) size (args.level + 2) most q.2 q.5 turn.i more),
-      q.3,
-      q.4,
-      subst (λ r. Small (length turn.buffers.out.now) (filtered r args.full_width (at now))) is
+    let v = turn.invariant in
+    record {
+      accepted = subst Accepted is (rung_accepted a args.full_width (at (held b)) size (args.level + 2) most q.accepted q.small turn.i more);
+      wide = q.wide;
+      offsets = q.offsets;
+      small = subst (λ r. Small (length turn.buffers.out.now) (filtered r args.full_width (at now))) is
           (λ k h.
-          rung_small a args.full_width (at (held b)) size (args.level + 2) most q.2 q.5 turn.i more now v.sums k
-          (omega (arith, v.same.long))),
-    )
+          rung_small a args.full_width (at (held b)) size (args.level + 2) most q.accepted q.small turn.i more now v.sums k
+          (omega (arith, v.same.long)));
+    }
 
 pub loop-i-preserved : goal.loop-i-preserved
 loop-i-preserved c =
@@ -82,7 +84,7 @@ loop-i-preserved c =
     let v = turn.invariant in
     let t = c.carry-in-loop-i.ensures in
     let is = c.rung_at.ensures in
-    let room : turn.i < 10 = omega (arith, c.requires.1, c.loop-i-test.true) in
+    let room : turn.i < 10 = omega (arith, c.requires.last, c.loop-i-test.true) in
     record {
       within = omega (arith, c.loop-i-test.true);
       same = same_twice b turn.buffers c.carry-in-loop-i.new.self v.same t.same;

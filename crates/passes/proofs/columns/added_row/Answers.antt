@@ -8,7 +8,7 @@ use Rattle.passes.proofs.columns.added_row.Goals as goal
 
 pub overflow_add-sum : goal.overflow_add-sum
 unfolding at
-overflow_add-sum c = omega (arith, c.requires.2 c.loop-i.i (omega arith))
+overflow_add-sum c = omega (arith, c.requires.fits c.loop-i.i (omega arith))
 
 pub loop-i-preserved : goal.loop-i-preserved
 unfolding at

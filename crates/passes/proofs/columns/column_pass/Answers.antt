@@ -42,11 +42,12 @@ next_row-requires c =
     let rest = drop c.min-first.result args.dst.now in
     let copied : length part ≡ c.min-first.result = ap length c.copy_from_slice.ensures.after ∙ length-take-le c.min-first.result args.src.now (omega arith) in
     let whole : length (part ++ rest) ≡ length args.dst.now = omega (arith, copied, c.requires.size, length-append part rest, length-drop c.min-first.result args.dst.now) in
-    let here : turn.j * args.step < length args.src.now = begins args.step turn.j (length args.src.now) c.requires.apart (omega arith) in (
-      still_ready args.step args.n _ args.dst.now _ c.requires (turn.auto.dst ∙ whole),
-      row_within args.step turn.j (omega arith),
-      omega arith,
-      omega arith,
-      λ h. row_before args.step args.n turn.j h,
-      λ k l. turn.invariant k (omega arith),
-    )
+    let here : turn.j * args.step < length args.src.now = begins args.step turn.j (length args.src.now) c.requires.apart (omega arith) in
+    record {
+      ready = still_ready args.step args.n _ args.dst.now _ c.requires (turn.auto.dst ∙ whole);
+      below = row_within args.step turn.j (omega arith);
+      short = omega arith;
+      inside = omega arith;
+      whole = λ h. row_before args.step args.n turn.j h;
+      sums = λ k l. turn.invariant k (omega arith);
+    }

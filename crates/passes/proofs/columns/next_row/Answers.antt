@@ -24,11 +24,6 @@ record Split (s n here w : ℕ) (src old done rest : List ℕ) : Type 0 where
   front : done ≡ take here old
   back : length rest + here ≡ length old
 
-split : (s n here w : ℕ) (src old done rest : List ℕ)
-    → Ready s n src old × (s ≤ here) × (w ≤ s) × (here + w ≤ length src) × (here < n * s → here + s ≤ n * s) × Below here (spread s n (at src)) old
-    → done ≡ take here old → length rest + here ≡ length old → Split s n here w src old done rest
-split s n here w src old done rest q f l = record { ready = q.0; below = q.1; short = q.2; room = q.3; sums = q.5; front = f; back = l }
-
 module _ {s n here w : ℕ} {src old done rest : List ℕ} (q : Split s n here w src old done rest) where
   row_long : length (take w rest) ≡ w
   row_long = length-take-le w rest (omega (arith, q.ready.size))
@@ -85,38 +80,51 @@ pub added_row-requires : goal.added_row-requires
 added_row-requires c =
     let args = c.args in
     let parts = c.split_at_mut-done in
-    let q = split args.step args.n args.here args.width _ args.dst.now _ parts.result.1.now c.requires parts.ensures.front parts.ensures.back_len in
+    let r = c.requires in
+    let q : Split args.step args.n args.here args.width args.src.now args.dst.now parts.result.0.now parts.result.1.now =
+    record { ready = r.ready; below = r.below; short = r.short; room = r.inside; sums = r.sums; front = parts.ensures.front; back = parts.ensures.back_len } in
     let long = row_long q in
-    (omega (arith, long, above_long q), omega (arith, long, part_long q c.args.here (omega arith)), λ k h. fitting q k (omega (arith, long)))
+    record {
+      above_long = omega (arith, long, above_long q);
+      coming_long = omega (arith, long, part_long q args.here (omega arith));
+      fits = λ k h. fitting q k (omega (arith, long));
+    }
 
 pub slid_row-requires : goal.slid_row-requires
 slid_row-requires c =
     let args = c.args in
     let parts = c.split_at_mut-done in
-    let q = split args.step args.n args.here args.width _ args.dst.now _ parts.result.1.now c.requires parts.ensures.front parts.ensures.back_len in
+    let r = c.requires in
+    let q : Split args.step args.n args.here args.width args.src.now args.dst.now parts.result.0.now parts.result.1.now =
+    record { ready = r.ready; below = r.below; short = r.short; room = r.inside; sums = r.sums; front = parts.ensures.front; back = parts.ensures.back_len } in
     let long = row_long q in
-    let past = c.if-here-span.false in (
-      omega (arith, long, above_long q),
-      omega (arith, long, part_long q args.here (omega arith)),
-      omega (arith, long, part_long q (args.here - args.n * args.step) (omega arith)),
-      λ k h. fitting q k (omega (arith, long)),
-      λ k h. omega (arith, moved q k (omega (arith, long)) past),
-    )
+    let past = c.if-here-span.false in
+    record {
+      above_long = omega (arith, long, above_long q);
+      coming_long = omega (arith, long, part_long q args.here (omega arith));
+      going_long = omega (arith, long, part_long q (args.here - args.n * args.step) (omega arith));
+      fits = λ k h. fitting q k (omega (arith, long));
+      enough = λ k h. omega (arith, moved q k (omega (arith, long)) past);
+    }
 
 pub returns-then-here-span : goal.returns-then-here-span
 returns-then-here-span c =
     let args = c.args in
     let parts = c.split_at_mut-done in
-    let q = split args.step args.n args.here args.width _ args.dst.now _ parts.result.1.now c.requires parts.ensures.front parts.ensures.back_len in
+    let r = c.requires in
+    let q : Split args.step args.n args.here args.width args.src.now args.dst.now parts.result.0.now parts.result.1.now =
+    record { ready = r.ready; below = r.below; short = r.short; room = r.inside; sums = r.sums; front = parts.ensures.front; back = parts.ensures.back_len } in
     let long = row_long q in
     written q c.added_row.new.row _ (c.added_row.auto.row ∙ long)
-    (λ k h. c.added_row.ensures k (omega (arith, long)) ∙ grown q k h (c.requires.4 c.if-here-span.true))
+    (λ k h. c.added_row.ensures k (omega (arith, long)) ∙ grown q k h (c.requires.whole c.if-here-span.true))
 
 pub returns-else-here-span : goal.returns-else-here-span
 returns-else-here-span c =
     let args = c.args in
     let parts = c.split_at_mut-done in
-    let q = split args.step args.n args.here args.width _ args.dst.now _ parts.result.1.now c.requires parts.ensures.front parts.ensures.back_len in
+    let r = c.requires in
+    let q : Split args.step args.n args.here args.width args.src.now args.dst.now parts.result.0.now parts.result.1.now =
+    record { ready = r.ready; below = r.below; short = r.short; room = r.inside; sums = r.sums; front = parts.ensures.front; back = parts.ensures.back_len } in
     let long = row_long q in
     written q c.slid_row.new.row _ (c.slid_row.auto.row ∙ long)
     (λ k h. c.slid_row.ensures k (omega (arith, long)) ∙ omega (arith, moved q k h c.if-here-span.false))

@@ -8,11 +8,11 @@ use Rattle.passes.proofs.columns.slid_row.Goals as goal
 
 pub overflow_add-sum : goal.overflow_add-sum
 unfolding at
-overflow_add-sum c = omega (arith, c.requires.3 c.loop-i.i (omega arith))
+overflow_add-sum c = omega (arith, c.requires.fits c.loop-i.i (omega arith))
 
 pub overflow_sub-sum : goal.overflow_sub-sum
 unfolding at
-overflow_sub-sum c = omega (arith, c.requires.4 c.loop-i.i (omega arith))
+overflow_sub-sum c = omega (arith, c.requires.enough c.loop-i.i (omega arith))
 
 pub loop-i-preserved : goal.loop-i-preserved
 unfolding at

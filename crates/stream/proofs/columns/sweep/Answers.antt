@@ -30,5 +30,5 @@ returns g c =
     let enough : length a.row.now ≤ i + m = omega (arith, turn.invariant.wide) in
     let before = subst (λ i. Swept f a.row.now a.own.now i turn.row turn.own) all turn.invariant.swept in
     let more = swept_more (length a.row.now) (length a.own.now) f c.requires.2 a.row.now a.own.now refl refl i m turn.row turn.own _ _ inside before
-    (ap₂ (λ u v. take i turn.row ++ (u ++ v)) c.work.ensures.0 (drop-drop m i turn.row)) c.work.ensures.1 in
+    (ap₂ (λ u v. take i turn.row ++ (u ++ v)) c.apply.ensures.0 (drop-drop m i turn.row)) c.apply.ensures.1 in
     swept_all (length a.row.now) (length a.own.now) f c.requires.2 a.row.now a.own.now refl refl (i + m) _ _ enough more

@@ -20,15 +20,16 @@ unfolding recipe
 cascade-requires c =
     let args = c.args in
     let r = recipe args.filter in
-    let k = c.requires.0 in
+    let k = c.requires.accepted in
     let b = args.self.now in
-    let all = c.boxes.ensures ∙ all_boxes r.rows k.rows_short in (
-      subst (λ ws. 0 < weight ws) (sym all) (rows_pos r k.not_zero),
-      omega arith,
-      omega arith,
-      subst (λ ws. Small (length b.out.now) (cascaded 1 ws (at (held b)))) (sym all)
-          (rows_small r args.full_width (length b.out.now) (held b) c.requires.3 k.not_zero),
-    )
+    let all = c.boxes.ensures ∙ all_boxes r.rows k.rows_short in
+    record {
+      not_zero = subst (λ ws. 0 < weight ws) (sym all) (rows_pos r k.not_zero);
+      apart = omega arith;
+      offsets = omega arith;
+      small = subst (λ ws. Small (length b.out.now) (cascaded 1 ws (at (held b)))) (sym all)
+          (rows_small r args.full_width (length b.out.now) (held b) c.requires.small k.not_zero);
+    }
 
 -- what the row widths leave
 rows : (r : List ℕ) (boxes : List ℕ) (size : ℕ) (now new : List ℕ) → boxes ≡ r → Below size (cascaded 1 boxes (at now)) new → Below size (cascaded 1 r (at now)) new
@@ -39,25 +40,26 @@ unfolding recipe
 cascade-requires-2 c =
     let args = c.args in
     let r = recipe args.filter in
-    let k = c.requires.0 in
+    let k = c.requires.accepted in
     let b = args.self.now in
     let t = c.cascade.ensures in
     let size = length b.out.now in
     let all = c.boxes-2.ensures ∙ all_boxes r.columns k.columns_short in
-    let first = rows r.rows c.boxes.result.now size (held b) (held c.cascade.new.self) (c.boxes.ensures ∙ all_boxes r.rows k.rows_short) t.sums in (
-      subst (λ ws. 0 < weight ws) (sym all) (columns_pos r k.not_zero),
-      c.requires.1,
-      c.requires.2,
-      subst (λ ws. Small (length c.cascade.new.self.out.now) (cascaded args.full_width ws (at (held c.cascade.new.self)))) (sym all)
-          (λ i h. columns_small r args.full_width size (held b) c.requires.3 _ first i (omega (arith, t.same.long))),
-    )
+    let first = rows r.rows c.boxes.result.now size (held b) (held c.cascade.new.self) (c.boxes.ensures ∙ all_boxes r.rows k.rows_short) t.sums in
+    record {
+      not_zero = subst (λ ws. 0 < weight ws) (sym all) (columns_pos r k.not_zero);
+      apart = c.requires.wide;
+      offsets = c.requires.offsets;
+      small = subst (λ ws. Small (length c.cascade.new.self.out.now) (cascaded args.full_width ws (at (held c.cascade.new.self)))) (sym all)
+          (λ i h. columns_small r args.full_width size (held b) c.requires.small _ first i (omega (arith, t.same.long)));
+    }
 
 pub returns-clause-holder : goal.returns-clause-holder
 unfolding recipe
 returns-clause-holder c =
     let args = c.args in
     let r = recipe args.filter in
-    let k = c.requires.0 in
+    let k = c.requires.accepted in
     let all = c.boxes.ensures ∙ all_boxes r.rows k.rows_short in
     let all2 = c.boxes-2.ensures ∙ all_boxes r.columns k.columns_short in
     c.cascade-2.ensures.holder
@@ -69,7 +71,7 @@ unfolding recipe
 returns-clause-sums c =
     let args = c.args in
     let r = recipe args.filter in
-    let k = c.requires.0 in
+    let k = c.requires.accepted in
     let b = args.self.now in
     let t = c.cascade.ensures in
     let size = length b.out.now in
@@ -77,4 +79,4 @@ returns-clause-sums c =
     let first = rows r.rows c.boxes.result.now size (held b) (held c.cascade.new.self) (c.boxes.ensures ∙ all_boxes r.rows k.rows_short) t.sums in
     λ i h. c.cascade-2.ensures.sums i (omega (arith, t.same.long))
     ∙ ap (λ ws. cascaded args.full_width ws (at (held c.cascade.new.self)) i) all
-    ∙ columns_carry r args.full_width size (held b) c.requires.3 _ first i h
+    ∙ columns_carry r args.full_width size (held b) c.requires.small _ first i h

@@ -25,14 +25,14 @@ turn-requires c =
     let e = next_width ws i (omega arith) in
     let long = length_held turn.self ∙ turn.invariant.same.long in
     let is : c.from.result ≡ n = c.from.ensures in
-    let small : 255 * args.step ≤ 2 ^ 32 = c.requires.2 in
+    let small : 255 * args.step ≤ 2 ^ 32 = c.requires.offsets in
     subst (λ m. Ready args.step m now turn.self.out.now) (sym is)
     (record {
-      apart = c.requires.1;
-      wide = width_pos args.step ws size (held first) i n now e left c.requires.0;
+      apart = c.requires.apart;
+      wide = width_pos args.step ws size (held first) i n now e left c.requires.not_zero;
       offsets = le_trans (mul-le-mul_right args.step (omega arith)) small;
       size = sym (length_held turn.self);
-      small = λ k h. width_small args.step ws size (held first) i n now e left c.requires.0 c.requires.3 k (omega (arith, long));
+      small = λ k h. width_small args.step ws size (held first) i n now e left c.requires.not_zero c.requires.small k (omega (arith, long));
     })
 
 pub loop-n-preserved : goal.loop-n-preserved

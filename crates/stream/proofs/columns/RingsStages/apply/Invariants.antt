@@ -1,8 +1,8 @@
--- `stream::columns::RingsStages::work` meets its contract: after each turn, the stages so far.
+-- `stream::columns::RingsStages::apply` meets its contract: after each turn, the stages so far.
 -- Assumes nothing.
 use Rattle.std.proofs.Common.{◌≡◌, length}
 use Rattle.stream.specs.Private.{rings_from}
-use Rattle.stream.proofs.columns.RingsStages.work.Given as goal
+use Rattle.stream.proofs.columns.RingsStages.apply.Given as goal
 
 abbrev pub invariant-loop-slot : goal.invariant-loop-slot
 invariant-loop-slot g l =

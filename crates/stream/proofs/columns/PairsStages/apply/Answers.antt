@@ -1,10 +1,10 @@
--- What `search` does not find of `columns::PairsStages::work`.
+-- What `search` does not find of `columns::PairsStages::apply`.
 use Rattle.std.proofs.Common.{◌≡◌, ◌+◌, ◌-◌, ◌*◌, ◌≤◌, ◌++◌, length, take, drop, sym, refl, ap, ◌∙◌, ap₂, add-one, arith, rules}
 use Rattle.laws.proofs.Numbers.{row_fits}
 use Rattle.stream.specs.Stages.{Worked}
 use Rattle.stream.specs.Private.{in_turn, pair_at, pairs_from}
 use Rattle.stream.proofs.Acting.{pair_lent}
-use Rattle.stream.proofs.columns.PairsStages.work.Goals as goal
+use Rattle.stream.proofs.columns.PairsStages.apply.Goals as goal
 
 pub loop-s-init : goal.loop-s-init
 unfolding pairs_from in_turn

@@ -1,9 +1,9 @@
--- What `search` does not find of `columns::RingsStages::work`.
+-- What `search` does not find of `columns::RingsStages::apply`.
 use Rattle.std.proofs.Common.{◌≡◌, ◌+◌, length, sym, refl, ap, ◌∙◌, subst, ap₂, add-one, arith}
 use Rattle.stream.specs.Stages.{Worked, column_slot}
 use Rattle.stream.specs.Private.{in_turn, rings_from, slot_at, Apart}
 use Rattle.stream.proofs.Sweeps.{slots_on}
-use Rattle.stream.proofs.columns.RingsStages.work.Goals as goal
+use Rattle.stream.proofs.columns.RingsStages.apply.Goals as goal
 
 pub loop-slot-init : goal.loop-slot-init
 unfolding rings_from in_turn

@@ -1,8 +1,8 @@
--- `stream::columns::PairsStages::work` meets its contract: after each turn, the stages so far.
+-- `stream::columns::PairsStages::apply` meets its contract: after each turn, the stages so far.
 -- Assumes nothing.
 use Rattle.std.proofs.Common.{◌≡◌, length}
 use Rattle.stream.specs.Private.{pairs_from}
-use Rattle.stream.proofs.columns.PairsStages.work.Given as goal
+use Rattle.stream.proofs.columns.PairsStages.apply.Given as goal
 
 abbrev pub invariant-loop-s : goal.invariant-loop-s
 invariant-loop-s l =
