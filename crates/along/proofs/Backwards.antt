@@ -50,15 +50,13 @@ mixed_left d i n {front} {back} {l} ys m size same =
     }
 
 -- eight differences, where the values that are taken away were copied to x and the others were lent
-pub eight_made : (n from : ℕ) (xs x ys : List ℕ) → n ≤ from → from + 8 ≤ length xs
-    → x ≡ take (from - n + 8 - (from - n)) (drop (from - n) xs)
+pub eight_made : (n from : ℕ) (xs x ys : List ℕ) → from + 8 ≤ length xs → x ≡ tab 8 (λ k. at xs (from - n + k))
     → ys ≡ tab (length (take (from + 8 - from) (drop from xs))) (λ k. minus (at (take (from + 8 - from) (drop from xs)) k) (at x k))
     → take from xs ++ (ys ++ drop (from + 8 - from) (drop from xs))
     ≡ take from xs ++ (tab 8 (λ k. minus (at xs (from + k)) (at xs (from - n + k))) ++ drop 8 (drop from xs))
 unfolding at
-eight_made n from xs x ys h l e g =
+eight_made n from xs x ys l e g =
     let size : from + 8 - from ≡ 8 = omega arith in
-    let low : from - n + 8 - (from - n) ≡ 8 = omega arith in
     let lent = take (from + 8 - from) (drop from xs) in
     ap₂ (λ a b. take from xs ++ (a ++ b))
     (g
@@ -66,7 +64,7 @@ eight_made n from xs x ys h l e g =
     ∙ tab_agree 8 (λ k. minus (at lent k) (at x k)) (λ k. minus (at xs (from + k)) (at xs (from - n + k)))
     (λ k u.
     ap₂ minus (get_or-take (from + 8 - from) (drop from xs) k 0 (omega arith) ∙ get_or-drop from xs k 0)
-    (ap (λ l. get_or l k 0) e ∙ get_or-take (from - n + 8 - (from - n)) (drop (from - n) xs) k 0 (omega arith) ∙ get_or-drop (from - n) xs k 0)))
+    (ap (λ l. get_or l k 0) e ∙ get_d_tab 8 (λ k. at xs (from - n + k)) k 0 u)))
     (ap (λ j. drop j (drop from xs)) size)
 
 -- Differences n places apart, taken from the end of the row down to a place.

@@ -1,8 +1,8 @@
 pub mod Modulo
 pub mod Orders
-pub mod Sweeps
+pub mod Carrying
 pub mod Rows
-pub mod Loops
 pub mod Backwards
 pub mod Boxes
 pub mod Answers
+pub mod Loading

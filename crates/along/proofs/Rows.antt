@@ -12,7 +12,7 @@ use Rattle.laws.proofs.Cascades.{spread, cascaded, spread_one}
 use Rattle.along.specs.Private.{repeat, paired, totalled, minus, less_earlier, differences}
 use Rattle.along.proofs.Modulo.{spread_alike, running_alike}
 use Rattle.along.proofs.Orders.{totals, totals_last, whole}
-use Rattle.along.proofs.Sweeps.{spread_two}
+use Rattle.along.proofs.Carrying.{spread_two}
 
 -- so many times, and then so many times more
 pub repeat_add : {A : Type 0} (c d : ℕ) (f : A → A) (x : A) → repeat d f (repeat c f x) ≡ repeat (c + d) f x

@@ -11,6 +11,11 @@ unfoldable pub repeat : {A : Type 0} → ℕ → (A → A) → A → A
 repeat zero f x = x
 repeat (suc c) f x = repeat c f (f x)
 
+-- what a stage makes of a row: of each value by what it is there, and what it is after that
+unfoldable pub swept : {S A : Type 0} → (S → A → A) → (S → A → S) → S → List A → List A
+swept made after s [] = []
+swept made after s (x ∷ xs) = made s x ∷ swept made after (after s x) xs
+
 -- a box of width 2, modulo m
 unfoldable pub paired : ℕ → List ℕ → List ℕ
 paired m xs = tab (length xs) (λ k. spread 1 2 (at xs) k % m)

@@ -1,39 +1,19 @@
 // From each value of a row the value n places earlier taken away, modulo 2^64, in place from the end of
 // the row.
-ghost use Rattle.std.specs.Prelude.{◌≡◌, ◌+◌, ◌-◌, ◌≤◌, ◌++◌, length, take, drop, if◌then◌else◌};
+ghost use Rattle.std.specs.Prelude.{◌≡◌, ◌+◌, ◌-◌, ◌≤◌, ◌++◌, length, take, drop, if◌then◌else◌, IsTrue};
 ghost use Rattle.spec.specs.Words.{tab};
-ghost use Rattle.spec.specs.Recipe.{widths};
 ghost use Rattle.laws.proofs.Kernels.{at};
 ghost use Rattle.laws.proofs.Slices.{Leftwards};
 ghost use Rattle.along.specs.Along.{wide};
 ghost use Rattle.along.specs.Private.{minus, less_earlier, differences, wide_boxes};
-
-use filter::width_at;
-use spec::Cascade;
-
-// A difference modulo 2^64.
-fn less(a: u64, b: u64) -> u64
-    ensures { result ≡ minus a b }
-{
-    std::num::wrapping_sub_u64(a, b)
-}
-
-fn copy(from: &[u64], to: &mut [u64])
-    requires { length from.now ≡ length to.old }
-    ensures { to.new ≡ from.now }
-{
-    for k in 0..to.len() {
-        to[k] = from[k];
-    }
-}
 
 fn subtract(row: &mut [u64], by: &[u64])
     requires { length by.now ≡ length row.old }
     ensures { let xs = row.old in
         row.new ≡ tab (length xs) (λ k. minus (at xs k) (at by.now k)) }
 {
-    for k in 0..row.len() {
-        row[k] = less(row[k], by[k]);
+    for (k, x) in row.iter_mut().enumerate() {
+        *x = x.wrapping_sub(by[k]);
     }
 }
 
@@ -44,12 +24,12 @@ fn eight_apart(n: usize, from: usize, row: &mut [u64])
     ensures { let xs = row.old in
         row.new ≡ take from xs ++ (tab 8 (λ k. minus (at xs (from + k)) (at xs (from - n + k))) ++ drop 8 (drop from xs)) }
 {
-    let to = from + 8;
-    let low = from - n;
-    let high = low + 8;
-    let mut x = [0u64; 8];
-    copy(&row[low..high], &mut x);
-    subtract(&mut row[from..to], &x);
+    let mut earlier = [0u64; 8];
+    // one by one: the compiler then keeps them in registers
+    for (k, x) in earlier.iter_mut().enumerate() {
+        *x = row[from - n + k];
+    }
+    subtract(&mut row[from..from + 8], &earlier);
 }
 
 // Eight at a time. Returns the place before which nothing is done yet.
@@ -70,33 +50,26 @@ fn apart(n: usize, row: &mut [u64])
     requires { n ≤ 255 }
     ensures { row.new ≡ differences n row.old }
 {
-    let mut from = eights(n, row);
-    while n < from {
-        from -= 1;
-        row[from] = less(row[from], row[from - n]);
+    let end = eights(n, row);
+    for k in (n..end).rev() {
+        row[k] = row[k].wrapping_sub(row[k - n]);
     }
 }
 
-// One width of a list: 1 changes nothing, and the boxes of width 2 are done elsewhere.
-fn apart_if_wide(n: u8, row: &mut [u64])
-    ensures { row.new ≡ (if wide n then differences n row.old else row.old) }
+// A width of 1 changes nothing, and the boxes of width 2 are done elsewhere.
+pub(crate) fn is_wide(n: u8) -> bool
+    ensures { result ≡ wide n }
 {
-    if n == 1 {
-        return;
-    }
-    if n == 2 {
-        return;
-    }
-    apart(n as usize, row);
+    n != 1 && n != 2
 }
 
 // All wide widths of a list.
-pub(crate) fn all_apart(list: Cascade, row: &mut [u64])
-    ensures { row.new ≡ wide_boxes (widths list) row.old }
+pub(crate) fn all_apart(boxes: &[u8], row: &mut [u64])
+    ensures { row.new ≡ wide_boxes boxes.now row.old }
 {
-    let count = list.count as usize;
-    for i in 0..count {
-        let n = width_at(list.count, &list.widths, i);
-        apart_if_wide(n, row);
+    for &n in boxes {
+        if is_wide(n) {
+            apart(usize::from(n), row);
+        }
     }
 }

@@ -4,7 +4,7 @@
 // differences. Without a wide box the row begins in 16 bits.
 #![tactic(auto)]
 
-ghost use Rattle.std.specs.Prelude.{◌≡◌, ◌-◌, ◌%◌, ◌^◌, min, length, replicate, if◌then◌else◌};
+ghost use Rattle.std.specs.Prelude.{◌≡◌, ◌-◌, ◌%◌, ◌^◌, ◌≤◌, ◌==◌, min, length, replicate, count_by, sum as list_sum, if◌then◌else◌};
 ghost use Rattle.spec.specs.Words.{sum, tab, somewhere};
 ghost use Rattle.spec.specs.Recipe.{widths};
 ghost use Rattle.laws.proofs.Kernels.{at};
@@ -13,17 +13,40 @@ ghost use Rattle.along.specs.Along.{wide, row_after, total_after};
 ghost use Rattle.along.specs.Private.{repeat, paired};
 
 mod differences;
-mod lists;
-mod narrow;
-mod pairs;
-mod totals;
+mod stages;
+mod sweeps;
 
-use crate::differences::all_apart;
-use crate::lists::counted;
-use crate::narrow::{extend, least, load, narrow_pairs};
-use crate::pairs::pairs;
-use crate::totals::first_sums;
+use crate::differences::{all_apart, is_wide};
+use crate::stages::{Pair, Total};
+use crate::sweeps::{repeated, repeated_from, widen};
 use spec::Cascade;
+
+// How many boxes have width 2, and how many are wide.
+fn counted(boxes: &[u8]) -> (usize, usize)
+    ensures twos { result.0 ≡ count_by (λ n. n == 2) boxes.now }
+    ensures wides { result.1 ≡ count_by wide boxes.now }
+{
+    let twos = boxes.iter().filter(|n| **n == 2).count();
+    let wides = boxes.iter().filter(|n| is_wide(**n)).count();
+    (twos, wides)
+}
+
+// The total of a row of pixels.
+fn total(pixels: &[u8]) -> u32
+    requires { length pixels.now ≤ 1279 }
+    ensures { result ≡ list_sum pixels.now }
+{
+    pixels.iter().map(|p| u32::from(*p)).sum()
+}
+
+// The pixels, as many as fit, on a row that was black.
+fn load(pixels: &[u8], narrow: &mut [u16])
+    requires { narrow.old ≡ replicate (length narrow.old) 0 }
+    ensures { narrow.new ≡ tab (length narrow.old) (at pixels.now) }
+{
+    let fit = pixels.len().min(narrow.len());
+    widen(&pixels[..fit], &mut narrow[..fit]);
+}
 
 // So many boxes of width 2, as many of them in 16 bits as cannot overflow: 255 * 2^8 is below 2^16.
 fn work_pairs(count: usize, narrow: &mut [u16], row: &mut [u64])
@@ -31,31 +54,31 @@ fn work_pairs(count: usize, narrow: &mut [u16], row: &mut [u64])
     ensures { let fast = min count 8 in
         row.new ≡ repeat (count - fast) (paired (2 ^ 64)) (repeat fast (paired (2 ^ 16)) narrow.old) }
 {
-    let fast = least(count, 8);
-    narrow_pairs(fast, narrow);
-    extend(narrow, row);
-    pairs(count - fast, row);
+    let fast = count.min(8);
+    repeated(Pair { before: 0 }, fast, narrow);
+    widen(narrow, row);
+    repeated(Pair { before: 0 }, count - fast, row);
 }
 
-// The row list, with a black row in 16 bits to work on.
-fn work(list: Cascade, pixels: &[u8], narrow: &mut [u16], row: &mut [u64]) -> u64
-    requires { narrow.old ≡ replicate (length row.old) 0 }
+// The row list.
+fn work(boxes: &[u8], pixels: &[u8], row: &mut [u64]) -> u64
+    requires { length row.old ≤ 1279 }
     ensures { let w = length row.old in let p = at pixels.now in
-        (row.new ≡ tab w (λ k. cascaded 1 (widths list) p k % 2 ^ 64))
-        × (result ≡ (if somewhere wide (widths list) then sum w p % 2 ^ 64 else 0)) }
+        (row.new ≡ tab w (λ k. cascaded 1 boxes.now p k % 2 ^ 64))
+        × (result ≡ (if somewhere wide boxes.now then sum w p % 2 ^ 64 else 0)) }
 {
+    let mut black = [0u16; 1279];
+    let narrow = &mut black[..row.len()];
     load(pixels, narrow);
-    let counts = counted(list);
-    let twos = counts.twos;
-    let wides = counts.wides;
+    let (twos, wides) = counted(boxes);
     if wides == 0 {
         work_pairs(twos, narrow, row);
         return 0;
     }
-    let total = first_sums(wides, narrow, row);
-    pairs(twos, row);
-    all_apart(list, row);
-    total
+    repeated_from(Total { total: 0 }, wides, narrow, row);
+    repeated(Pair { before: 0 }, twos, row);
+    all_apart(boxes, row);
+    u64::from(total(&pixels[..pixels.len().min(row.len())]))
 }
 
 // Works a row list along the pixels of a row and the black places after them, modulo 2^64. What the row
@@ -66,14 +89,8 @@ pub fn along(list: Cascade, pixels: &[u8], row: &mut [u64]) -> u64
     ensures { let ns = widths list in let xs = pixels.now in let old = row.old in
         (row.new ≡ row_after ns xs old) × (result ≡ total_after ns xs (length old)) }
 {
-    if 48 < list.count {
+    if 48 < list.count || 1279 < row.len() {
         return 0;
     }
-    let end = row.len();
-    if 1279 < end {
-        return 0;
-    }
-    let z: usize = 0;
-    let mut narrow = [0u16; 1279];
-    work(list, pixels, &mut narrow[z..end], row)
+    work(list.boxes(), pixels, row)
 }

@@ -1,24 +1,31 @@
 -- What `search` does not find of `differences::all_apart`.
-use Rattle.spec.specs.Recipe.{widths}
-use Rattle.filter.proofs.Widths.{length_widths, widths_on}
+use Rattle.std.proofs.Common.{◌≡◌, ℕ, List, Bool, true, false, cond, get_or, sym, ap, ◌∙◌, arith, drop-cons}
+use Rattle.along.specs.Along.{wide}
+use Rattle.along.specs.Private.{differences}
 use Rattle.along.proofs.Boxes.{wide_boxes_next, wide_boxes_all}
-use Rattle.std.proofs.Common.{suc, ◌∷◌, drop, sym, refl, ap, ◌∙◌, arith, rules}
 use Rattle.along.proofs.differences.all_apart.Goals as goal
+use Rattle.along.proofs.differences.all_apart.Goals.{then-is_wide, else-is_wide}
 
-pub loop-i-init : goal.loop-i-init
-loop-i-init c = (refl, refl, search rules, refl)
+chosen : (n : ℕ) (xs : List ℕ) (b : Bool) → wide n ≡ b → cond b (differences n xs) xs ≡ cond (wide n) (differences n xs) xs
+chosen n xs b e = sym (ap (λ b. cond b (differences n xs) xs) e)
 
-pub loop-i-preserved : goal.loop-i-preserved
-loop-i-preserved c =
-    let turn = c.loop-i in
-    let list = c.args.list in
-    let n = c.width_at-n in
-    let did = c.apart_if_wide in
-    let next = widths_on list turn.i (omega arith) ∙ ap (λ m. m ∷ drop (suc turn.i) (widths list)) (sym n.ensures) in
-    (turn.invariant.0, did.auto.row ∙ turn.invariant.1, search rules, wide_boxes_next (widths list) turn.i n.result _ _ _ next did.ensures turn.invariant.3)
+pub loop-n-preserved : goal.loop-n-preserved
+loop-n-preserved c =
+    let turn = c.loop-n in
+    let boxes = c.args.boxes.now in
+    let n = get_or boxes turn.n-index 0 in
+    let did : c.if-is_wide.row ≡ cond (wide n) (differences n turn.row) turn.row =
+    elim c.if-is_wide.branch [
+      | then-is_wide w ↦
+          w.row-is
+          ∙ w.apart.ensures
+          ∙ ap (λ m. differences m turn.row) w.from.ensures
+          ∙ chosen n turn.row true (sym c.is_wide.ensures ∙ w.if-is_wide.true)
+      | else-is_wide w ↦ w.row-is ∙ chosen n turn.row false (sym c.is_wide.ensures ∙ w.if-is_wide.false)
+    ] in
+    wide_boxes_next boxes turn.n-index n turn.row _ _ (drop-cons boxes turn.n-index 0 (omega arith)) did turn.invariant
 
 pub returns : goal.returns
 returns c =
-    let turn = c.loop-i in
-    let list = c.args.list in
-    wide_boxes_all (widths list) turn.i _ _ (omega (arith, length_widths list, turn.invariant.0)) turn.invariant.3
+    let turn = c.loop-n in
+    wide_boxes_all c.args.boxes.now turn.n-index turn.row _ (omega arith) turn.invariant
