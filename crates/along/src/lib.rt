@@ -60,15 +60,13 @@ fn work_pairs(count: usize, narrow: &mut [u16], row: &mut [u64])
     repeated(Pair { before: 0 }, count - fast, row);
 }
 
-// The row list.
-fn work(boxes: &[u8], pixels: &[u8], row: &mut [u64]) -> u64
-    requires { length row.old ≤ 1279 }
+// The row list, with a black row in 16 bits to work on.
+fn work(boxes: &[u8], pixels: &[u8], narrow: &mut [u16], row: &mut [u64]) -> u64
+    requires { (narrow.old ≡ replicate (length row.old) 0) × (length row.old ≤ 1279) }
     ensures { let w = length row.old in let p = at pixels.now in
         (row.new ≡ tab w (λ k. cascaded 1 boxes.now p k % 2 ^ 64))
         × (result ≡ (if somewhere wide boxes.now then sum w p % 2 ^ 64 else 0)) }
 {
-    let mut black = [0u16; 1279];
-    let narrow = &mut black[..row.len()];
     load(pixels, narrow);
     let (twos, wides) = counted(boxes);
     if wides == 0 {
@@ -92,5 +90,6 @@ pub fn along(list: Cascade, pixels: &[u8], row: &mut [u64]) -> u64
     if 48 < list.count || 1279 < row.len() {
         return 0;
     }
-    work(list.boxes(), pixels, row)
+    let mut narrow = [0u16; 1279];
+    work(list.boxes(), pixels, &mut narrow[..row.len()], row)
 }

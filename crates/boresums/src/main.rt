@@ -7,10 +7,8 @@ use std::io::{Eprint, Error, Result};
 
 // An error's text without the system's number for it.
 fn words(text: &str) -> &str {
-    match text.split_once(" (os error ") {
-        Some((words, _)) => words,
-        None => text,
-    }
+    text.split_once(" (os error ")
+        .map_or(text, |(words, _)| words)
 }
 
 // Writes to standard error what cannot be done, and why.
@@ -27,9 +25,7 @@ fn main(rt: HostRuntime) {
         let _ = fail(&rt, "read standard input", error);
         return;
     }
-    let z: usize = 0;
-    let count = input.count;
-    let printed = console::print_report(&mut rt.stdout(), &bytes[z..count]);
+    let printed = console::print_report(&mut rt.stdout(), &bytes[..input.count]);
     if let Some(error) = printed.error {
         let _ = fail(&rt, "write standard output", error);
     }

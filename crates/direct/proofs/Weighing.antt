@@ -122,14 +122,6 @@ row_past rs w h ps i v past =
           | no l ↦ behind_before (λ k. 0) a i (omega arith)
         ]
 
--- the end of row j - b, which is inside the picture
-pub row_end : (w h b j to size : ℕ) → to ≡ (j + 1 - b) * w → b ≤ j → j + 1 ≤ b + h → size ≡ w * h
-    → (to ≡ (j - b) * w + w) × (to ≤ size)
-row_end w h b j to size e l g s =
-    let up : j + 1 - b ≡ suc (j - b) = omega arith in
-    let below : j + 1 - b ≤ h = omega arith in
-    (e ∙ ap (λ n. n * w) up ∙ suc-mul (j - b) w, omega (arith, mul-le-mul_right w below, mul_comm w h))
-
 -- the exact sum: the rows through R, then down the columns through C
 pub window_exact : (r : Recipe) (p : Picture) → 0 < gain r → (i j : ℕ) → window (kernel r.rows) (kernel r.columns) p i j ≡ exact r p i j
 unfolding window through across

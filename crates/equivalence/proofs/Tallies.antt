@@ -1,4 +1,4 @@
--- Tallies of the widths of cascades: the loop that counts them, two tallies compared, and what the comparison says of the lists.
+-- Tallies of the widths of cascades: the loop that counts them, the loop that compares two tallies, and what the comparison says of the lists.
 -- Assumes nothing.
 use mathlib.Core.Path.{◌≡◌, refl, sym, ap, ap₂, subst, ◌∙◌}
 use mathlib.Core.Bool.{Bool, true, false, cond, ◌&&◌, true≢false}
@@ -10,9 +10,8 @@ use native.Mathlib.Decide.{dec_lt}
 use native.Mathlib.Omega.{arith}
 use lib.Dec.{eqb}
 use lib.ListN.{length, get_or, drop, set, replicate, length-set, length-replicate, get_or-replicate, drop_of_length-le}
-use lib.Seq.{get_or-set_same, get_or-set_other, drop-cons, ext_get_or}
+use lib.Seq.{get_or-set_same, get_or-set_other, drop-cons}
 use borrow.Author.Tests.{eqb-true, eqb-false, lt-ltb, ltb-true}
-use Rattle.std.specs.Bool.{Decides as EqDecides}
 use Rattle.spec.specs.Words.{tab, everywhere, occurs}
 use Rattle.spec.specs.Same.{struck, same_counts}
 use Rattle.equivalence.specs.Tally.{byte, tally_of, Alike, Decides}
@@ -113,15 +112,41 @@ module _ (ns : List ℕ) where
             ∙ omega (arith, t.is n l, ap (occurs n) over, occurs_none n)
             ∙ sym (struck_other n ns other)
 
--- ---- two tallies
+-- ---- the loop that compares two tallies
 
--- they are the same list exactly where they agree at every width
-pub same_alike : (a b : List ℕ) (same : Bool) → length a ≡ 256 → length b ≡ 256 → EqDecides same (a ≡ b) → Decides same (Alike a b)
-same_alike a b same l m d =
-    record {
-      so = λ e n h. ap (λ xs. get_or xs n 0) (d.0 e);
-      not = λ e alike. true≢false (sym (d.1 (ext_get_or 0 a b (l ∙ sym m) (λ n h. alike n (omega arith)))) ∙ e);
-    }
+-- Before place n they agree, or they are known to differ.
+pub record AlikeBefore (a b : List ℕ) (same : Bool) (n : ℕ) : Type 0 where
+  pub so : same ≡ true → (k : ℕ) → k < n → get_or a k 0 ≡ get_or b k 0
+  pub not : same ≡ false → Alike a b → ⊥
+
+module _ (a b : List ℕ) where
+  pub compared_none : AlikeBefore a b true 0
+  compared_none = record { so = λ e k h. absurd (omega arith); not = λ e. absurd (true≢false e) }
+
+  module _ (same : Bool) (n : ℕ) (t : AlikeBefore a b same n) where
+    pub compared_more : n < 256 → (x y : ℕ) → x ≡ get_or a n 0 → y ≡ get_or b n 0 → AlikeBefore a b (same && eqb x y) (n + 1)
+    compared_more h x y d e = go same (eqb x y) refl refl
+      where
+        go : (was now : Bool) → same ≡ was → eqb x y ≡ now → AlikeBefore a b (was && now) (n + 1)
+        go false now p q = record { so = λ z. absurd (true≢false (sym z)); not = λ z. t.not p }
+        go true false p q =
+            record {
+              so = λ z. absurd (true≢false (sym z));
+              not = λ z alike. eqb-false x y q (d ∙ alike n h ∙ sym e);
+            }
+        go true true p q =
+            record {
+              so = λ z k l. elim (dec_lt k n) [
+                | yes m ↦ t.so p k m
+                | no m ↦
+                    let is : k ≡ n = omega arith in
+                    ap (λ j. get_or a j 0) is ∙ sym d ∙ eqb-true x y q ∙ e ∙ sym (ap (λ j. get_or b j 0) is)
+              ];
+              not = λ z. absurd (true≢false z);
+            }
+
+    pub compared_all : 256 ≤ n → Decides same (Alike a b)
+    compared_all h = record { so = λ e k l. t.so e k (omega arith); not = t.not }
 
 -- ---- what the comparison says of the lists
 

@@ -2,7 +2,7 @@
 // their lists.
 #![tactic(auto)]
 
-ghost use Rattle.std.specs.Prelude.{◌≡◌, true, ◌≤◌};
+ghost use Rattle.std.specs.Prelude.{◌≡◌, true, ◌≤◌, replicate};
 ghost use Rattle.spec.specs.Words.{everywhere};
 ghost use Rattle.spec.specs.Recipe.{recipe, widths};
 ghost use Rattle.spec.specs.Same.{same_counts};
@@ -14,23 +14,25 @@ use filter::check;
 use spec::{Cascade, Filter, Refusal};
 
 // How often each width occurs in a cascade, with widths of 1 struck out. Every width is a byte.
-fn tally(list: Cascade) -> [u8; 256]
-    requires { list.count ≤ 48 }
-    ensures { (result ≡ tally_of (widths list)) × (everywhere byte (widths list) ≡ true) }
+fn tally(list: Cascade, counts: &mut [u8; 256])
+    requires { (list.count ≤ 48) × (counts.old ≡ replicate 256 0) }
+    ensures { (counts.new ≡ tally_of (widths list)) × (everywhere byte (widths list) ≡ true) }
 {
-    let mut counts = [0u8; 256];
     for &n in list.boxes() {
         counts[usize::from(n)] += 1;
     }
     counts[1] = 0;
-    counts
 }
 
-// Whether two tallies agree at every width.
+// Whether two tallies agree at every width. All are looked at: a loop with no early end takes many at once.
 fn agree(a: &[u8; 256], b: &[u8; 256]) -> bool
     ensures { Decides result (Alike a.now b.now) }
 {
-    a == b
+    let mut same = true;
+    for (x, y) in a.iter().zip(b) {
+        same &= x == y;
+    }
+    same
 }
 
 // Whether every width but 1 occurs as often in one cascade as in another.
@@ -38,7 +40,11 @@ fn same_counts(a: Cascade, b: Cascade) -> bool
     requires { (a.count ≤ 48) × (b.count ≤ 48) }
     ensures { result ≡ same_counts (widths a) (widths b) }
 {
-    agree(&tally(a), &tally(b))
+    let mut of_a = [0u8; 256];
+    let mut of_b = [0u8; 256];
+    tally(a, &mut of_a);
+    tally(b, &mut of_b);
+    agree(&of_a, &of_b)
 }
 
 // The first recipe's refusal, or else the second's.

@@ -14,17 +14,10 @@ use std::thread::yield_now;
 // How often a call is made while no byte moves: for some seconds.
 const TRIES: usize = 10000000;
 
-// How many bytes were read, and why no more where a read failed.
+// How far a reading or a writing came: how many bytes, and why no further where a call failed.
 #[derive(Drop)]
-pub struct Input {
+pub struct Progress {
     pub count: usize,
-    pub error: Option<Error>,
-}
-
-// How many bytes were written, and why no more where a write failed.
-#[derive(Drop)]
-pub struct Output {
-    pub written: usize,
     pub error: Option<Error>,
 }
 
@@ -54,7 +47,7 @@ fn read_some<R: Read>(reader: &mut R, bytes: &mut [u8]) -> Result<usize>
 }
 
 // Reads until the input ends, `bytes` is full or a read fails.
-fn read_into<R: Read>(reader: &mut R, bytes: &mut [u8]) -> Input
+fn read_into<R: Read>(reader: &mut R, bytes: &mut [u8]) -> Progress
     ensures bound { result.count ≤ length bytes.new }
     ensures read { Consumes (R.remaining reader.old) (R.remaining reader.new) (take result.count bytes.new) }
     ensures end { IsNone result.error → result.count < length bytes.new → IsAtEnd (R.remaining reader.new) }
@@ -70,12 +63,12 @@ fn read_into<R: Read>(reader: &mut R, bytes: &mut [u8]) -> Input
             Err(error) => break Some(error),
         }
     };
-    Input { count, error }
+    Progress { count, error }
 }
 
 // Reads what boresums takes: up to one byte more than the 65,536 of a job, which is enough to see that the
 // input is over that.
-pub fn read_all<R: Read>(reader: &mut R, bytes: &mut [u8; 65537]) -> Input
+pub fn read_all<R: Read>(reader: &mut R, bytes: &mut [u8; 65537]) -> Progress
     ensures bound { result.count ≤ length bytes.new }
     ensures read { Consumes (R.remaining reader.old) (R.remaining reader.new) (take result.count bytes.new) }
     ensures end { IsNone result.error → result.count < 65537 → IsAtEnd (R.remaining reader.new) }
@@ -103,10 +96,10 @@ fn write_some<W: Write>(writer: &mut W, bytes: &[u8]) -> Result<usize>
 }
 
 // Writes `bytes` from the first on, and answers how many: all of them, unless a write fails.
-pub fn write_all<W: Write>(writer: &mut W, bytes: &[u8]) -> Output
-    ensures bound { result.written ≤ length bytes.now }
-    ensures whole { IsNone result.error ↔ (result.written ≡ length bytes.now) }
-    ensures sent { Appends (W.contents writer.old) (W.contents writer.new) (take result.written bytes.now) }
+pub fn write_all<W: Write>(writer: &mut W, bytes: &[u8]) -> Progress
+    ensures bound { result.count ≤ length bytes.now }
+    ensures whole { IsNone result.error ↔ (result.count ≡ length bytes.now) }
+    ensures sent { Appends (W.contents writer.old) (W.contents writer.new) (take result.count bytes.now) }
 {
     let mut rest = bytes;
     let error = loop {
@@ -119,8 +112,8 @@ pub fn write_all<W: Write>(writer: &mut W, bytes: &[u8]) -> Output
             Err(error) => break Some(error),
         }
     };
-    Output {
-        written: bytes.len() - rest.len(),
+    Progress {
+        count: bytes.len() - rest.len(),
         error,
     }
 }

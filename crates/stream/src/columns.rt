@@ -9,12 +9,15 @@ ghost use Rattle.stream.specs.Private.{pairs_from, rings_from, Acts, Apart, Slot
 
 use crate::sizes::cascade_cells;
 
-// Stages that are worked together, on the columns of a row of so many and on cells of their own.
+// Stages that are worked together.
 trait Stages {
+    // The columns of a row.
     ghost width: { Self → ℕ };
 
+    // So many cells are theirs.
     ghost has: { Self → ℕ → Type 0 };
 
+    // What they make of columns from one on, and of their cells.
     ghost made: { Self → ℕ → List ℕ → List ℕ → Worked };
 
     // In turn, on at most eight columns from a column on.

@@ -7,7 +7,8 @@ use Rattle.laws.proofs.Cascades.{cascaded}
 use Rattle.laws.proofs.Boxes.{length_widths, boxes_all}
 use Rattle.along.specs.Along.{wide, too_much}
 use Rattle.along.proofs.Answers.{too_long, both_fit, refused, answered}
-use Rattle.std.proofs.Common.{◌%◌, ◌^◌, cond, length, ap, ◌∙◌, arith}
+use Rattle.along.proofs.Loading.{black}
+use Rattle.std.proofs.Common.{◌%◌, ◌^◌, ◌≤◌, cond, length, ap, ◌∙◌, arith}
 use Rattle.along.proofs.along.Goals as goal
 
 pub returns-then-list-gt48 : goal.returns-then-list-gt48
@@ -15,6 +16,12 @@ returns-then-list-gt48 c =
     let a = c.args in
     let w = length a.row.now in
     refused (widths a.list) _ a.row.now (ap (λ n. too_much n w) (length_widths a.list) ∙ too_long a.list.count w c.then-list-gt48.either)
+
+pub work-requires : goal.work-requires
+work-requires c =
+    let w = length c.args.row.now in
+    let small : w ≤ 1279 = omega arith in
+    (black w 1279 small, small)
 
 pub returns : goal.returns
 returns c =

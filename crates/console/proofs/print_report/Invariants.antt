@@ -5,12 +5,12 @@ use Rattle.spec.specs.Program.{printed}
 use Rattle.report.specs.Session.{until_refused}
 use Rattle.console.proofs.print_report.Given as goal
 
-abbrev pub invariant-loop-k : goal.invariant-loop-k
-invariant-loop-k g l = record {
+abbrev pub invariant-loop : goal.invariant-loop
+invariant-loop g l = record {
   cells : length l.cells ≡ 8192;
   text : length l.text ≡ 65536;
-  few : l.count ≤ l.k * 65536;
+  few : l.count ≤ l.counter * 65536;
   within : l.count ≤ length (printed l.job);
-  rest : drop l.count (printed l.job) ≡ until_refused (1280 - l.k) l.at l.job l.cells l.text;
+  rest : drop l.count (printed l.job) ≡ until_refused (1280 - l.counter) l.at l.job l.cells l.text;
   sent : Appends (g.W.Write.contents l.initial.writer) (g.W.Write.contents l.writer) (take l.count (printed l.job));
 }
