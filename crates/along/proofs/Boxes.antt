@@ -4,9 +4,7 @@ use Rattle.std.proofs.Common.{◌≡◌, ℕ, zero, suc, ◌+◌, ◌-◌, ◌^�
 use mathlib.Core.Path.{fun_ext}
 use native.Mathlib.Nat.{pow-le-pow_right}
 use native.Mathlib.Decide.{dec_lt}
-use Rattle.spec.specs.Words.{sum, tab, total, somewhere, occurs}
-use Rattle.laws.proofs.Sums.{sum_agree}
-use Rattle.laws.proofs.Lists.{length_tab, get_d_tab}
+use Rattle.spec.specs.Words.{tab, total, somewhere, occurs}
 use Rattle.laws.proofs.Kernels.{at}
 use Rattle.laws.proofs.Cascades.{spread, cascaded, spread_unit}
 use Rattle.along.specs.Along.{wide}
@@ -210,10 +208,3 @@ module _ (w : ℕ) (ns pixels : List ℕ) (bytes : (k : ℕ) → at pixels k ≤
       ∙ ap (wide_boxes ns)
       (pairs_row (2 ^ 64) w c (totals (wides ns) p) ∙ ap (row (2 ^ 64) w) (totals_cascaded (wides ns) (replicate c 2) p))
       ∙ wide_boxes_row w ns p
-
--- the total of a row that was loaded
-pub worked_sum : (w : ℕ) (pixels : List ℕ) → sum (length (tab w (at pixels))) (at (tab w (at pixels))) ≡ sum w (at pixels)
-unfolding at
-worked_sum w pixels =
-    ap (λ n. sum n (at (tab w (at pixels)))) (length_tab w (at pixels))
-    ∙ sum_agree (at (tab w (at pixels))) (at pixels) w (λ k h. get_d_tab w (at pixels) k 0 h)

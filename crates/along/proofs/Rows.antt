@@ -27,14 +27,6 @@ module _ {A : Type 0} (f : A → A) where
       let n : d + (left - d) ≡ left = omega arith in
       ap (repeat (left - d) f) e ∙ repeat_add d (left - d) f x ∙ ap (λ n. repeat n f x) n ∙ g
 
-  pub repeat_none : (n : ℕ) (x : A) → n ≤ 0 → repeat n f x ≡ x
-  unfolding repeat
-  repeat_none n x h = let e : n ≡ 0 = omega arith in ap (λ n. repeat n f x) e
-
-  pub repeat_once : (n : ℕ) (x : A) → n ≡ 1 → f x ≡ repeat n f x
-  unfolding repeat
-  repeat_once n x e = sym (ap (λ n. repeat n f x) e)
-
 -- the first w values of a sequence modulo m
 unfoldable pub row : ℕ → ℕ → (ℕ → ℕ) → List ℕ
 row m w f = tab w (λ k. f k % m)
@@ -82,15 +74,6 @@ unfolding repeat totals
 totals_row w zero f = refl
 totals_row w (suc c) f =
     ap (repeat c totalled) (totalled_row w f) ∙ totals_row w c (running f) ∙ ap (row (2 ^ 64) w) (totals_last c f)
-
--- the first of several may begin from any row
-pub pairs_any : (m c : ℕ) (xs : List ℕ) → repeat (suc c) (paired m) xs ≡ row m (length xs) (cascaded 1 (replicate (suc c) 2) (at xs))
-unfolding repeat cascaded paired row
-pairs_any m c xs = pairs_row m (length xs) c (spread 1 2 (at xs))
-
-pub totals_any : (c : ℕ) (xs : List ℕ) → repeat (suc c) totalled xs ≡ row (2 ^ 64) (length xs) (totals (suc c) (at xs))
-unfolding repeat totals totalled row
-totals_any c xs = totals_row (length xs) c (running (at xs)) ∙ ap (row (2 ^ 64) (length xs)) (totals_last c (at xs))
 
 -- from running totals the one n places earlier taken away: a box
 minus_exact : (a b c : ℕ) → c + b ≡ a → minus (a % 2 ^ 64) (b % 2 ^ 64) ≡ c % 2 ^ 64

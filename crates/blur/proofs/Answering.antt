@@ -1,6 +1,6 @@
 -- What the same-size blur answers: the order of its checks, and what is left where one of them holds and where none does.
 -- Assumes nothing.
-use mathlib.Core.Path.{◌≡◌, sym, ap, ap₂, ◌∙◌}
+use mathlib.Core.Path.{◌≡◌, sym, ap, ◌∙◌}
 use mathlib.Core.Logic.{◌⊎◌, inl, inr}
 use mathlib.Core.Bool.{◌||◌}
 use mathlib.Core.List.{List, [], ◌∷◌, ◌++◌}
@@ -8,7 +8,6 @@ use Prim.Native.Nat.{ℕ, ◌+◌, ◌*◌, ◌≤◌, ◌<◌}
 use native.Mathlib.Nat.{mul_comm}
 use lib.IntN.{ℤ}
 use lib.ListN.{length, get_or, take, drop}
-use lib.Seq.{take_at}
 use Rattle.spec.specs.Recipe.{Recipe}
 use Rattle.spec.specs.Picture.{Picture}
 use Rattle.spec.specs.Gray.{places, same_gray, same_leftover}
@@ -60,10 +59,6 @@ module _ (r : Recipe) (p : Picture) (out left cells : ℕ) where
       pub blur_unlike : (out ≡ size → ⊥) ⊎ ((out ≡ size) × (left ≡ size → ⊥)) → number ≡ 7
       blur_unlike (inl h) = blur_output h
       blur_unlike (inr h) = blur_leftovers h.0 h.1
-
--- a front of the work cells was lent and came back as ys, and the rest was not lent
-pub front_came : (lent front : ℕ) → lent ≡ front → (ys old : List ℕ) → length ys ≡ lent → ys ++ drop lent old ≡ take front (ys ++ drop lent old) ++ drop front old
-front_came lent front q ys old e = ap₂ ◌++◌ (sym (take_at ys (drop lent old) front (e ∙ q))) (ap (λ n. drop n old) q)
 
 -- on a refusal nothing is written; otherwise all is
 module _ (r : Recipe) (p : Picture) (out : List ℕ) (left : List ℤ) (cells : List ℕ) where

@@ -1,5 +1,4 @@
 pub mod Nearest
-pub mod Parts
 pub mod Planning
 pub mod Passes
 pub mod Pairs

@@ -2,21 +2,21 @@
 // call returns document 01's number, 0 where it is accepted; on a refusal nothing is written.
 #![tactic(auto)]
 
-ghost use Rattle.std.specs.Prelude.{◌≡◌};
+ghost use Rattle.std.specs.Prelude.{◌≡◌, ℕ, ℤ};
 ghost use Rattle.spec.specs.Recipe.{recipe};
-ghost use Rattle.spec.specs.Picture.{picture};
-ghost use Rattle.spec.specs.Gray.{same_sum, same_gray, same_leftover, same_quotient, reading as reading_of};
+ghost use Rattle.spec.specs.Picture.{picture, pictured};
+ghost use Rattle.spec.specs.Gray.{gray_reading, same_sum, same_gray, same_leftover, same_quotient, reading as reading_of};
 ghost use Rattle.spec.specs.Refusals.{first, lent, answer as answer_of, reading_checks};
 ghost use Rattle.gray.specs.Rounded.{Rounded};
 ghost use Rattle.blur.specs.Blurred.{Blurred};
 ghost use Rattle.difference.specs.Differenced.{Differenced};
-ghost use Rattle.sample.specs.Sampled.{chosen, sampled_told};
+ghost use Rattle.sample.specs.Sampled.{chosen, sample_told, sampled_told};
 ghost use Rattle.blocks.specs.Given.{given};
-ghost use Rattle.gray_c.specs.Parted.{Parted};
 
 use blocks::filter_of;
-use sample::{Quantity, Sample, Sampled, reading};
-use spec::Filter;
+use gray::Shade;
+use sample::{Quantity, Sample, reading};
+use spec::{Image, Refusal, outcome};
 
 // The greys of a row of sums and their leftovers: 1 to 4, 7, 11.
 #[unsafe(no_mangle)]
@@ -29,7 +29,7 @@ pub extern "C" fn bore_round(
     ensures { Rounded (recipe (given block.now)) sums.now out.old leftovers.old
         result out.new leftovers.new }
 {
-    gray::round(filter_of(block), sums, out, leftovers)
+    outcome(gray::round(filter_of(block), sums, out, leftovers))
 }
 
 // The blur of a picture in its own size, by the inside weight, and its leftovers: 1 to 8.
@@ -46,8 +46,12 @@ pub extern "C" fn bore_blur(
     ensures { Blurred (recipe (given block.now)) (picture width height pixels.now)
         out.old leftovers.old cells.old result out.new leftovers.new cells.new }
 {
-    let filter = filter_of(block);
-    blur::blur(filter, width, height, pixels, out, leftovers, cells)
+    let image = Image {
+        width,
+        height,
+        pixels,
+    };
+    outcome(blur::blur(filter_of(block), image, out, leftovers, cells))
 }
 
 // The difference of two recipes at each picture place: the first's 1 to 4, then the second's 1 to 4, then
@@ -65,67 +69,37 @@ pub extern "C" fn bore_difference(
     ensures { Differenced (recipe (given a.now)) (recipe (given b.now)) (picture width height pixels.now)
         out.old cells.old result out.new cells.new }
 {
-    let first = filter_of(a);
-    let second = filter_of(b);
-    difference::difference(first, second, width, height, pixels, out, cells)
+    let image = Image {
+        width,
+        height,
+        pixels,
+    };
+    outcome(difference::difference(filter_of(a), filter_of(b), image, out, cells))
 }
 
-// An answer of `sample::reading` in parts: the number of a refusal or 0, and what was read; the other parts
-// are 0.
-#[derive(Drop)]
-struct Parts {
-    refusal: u8,
-    gray: u8,
-    leftover: i64,
-    sum: u64,
-    mean: f64,
-}
-
-fn parts_of(answer: Sampled) -> Parts
-    ensures { Parted (sampled_told answer) result }
-{
-    let mut refusal: u8 = 0;
-    let mut gray: u8 = 0;
-    let mut leftover: i64 = 0;
-    let mut sum: u64 = 0;
-    let mut mean: f64 = 0.0;
-    match answer {
-        Sampled::Refused(number) => refusal = number,
-        Sampled::Of(sample) => match sample {
-            Sample::Gray {
-                gray: g,
-                leftover: l,
-            } => {
-                gray = g;
-                leftover = l;
-            }
-            Sample::Sum(s) => sum = s,
-            Sample::Mean(m) => mean = m,
-        },
-    }
-    Parts {
-        refusal,
-        gray,
-        leftover,
-        sum,
-        mean,
-    }
-}
-
-// The reading at a picture place, in its parts.
+// The reading at a picture place, of the recipe that is given.
 fn read(
-    quantity: Quantity,
-    filter: Filter,
-    width: usize,
-    height: usize,
-    pixels: &[u8],
+    block: &[u8; 98],
+    image: Image,
     column: usize,
     row: usize,
-) -> Parts
-    ensures { let g = recipe filter in let p = picture width height pixels.now in
-        Parted (answer_of (reading_checks g p column row) (reading_of (chosen quantity) g p column row)) result }
+    quantity: Quantity,
+) -> Result<Sample, Refusal>
+    ensures { let g = recipe (given block.now) in let p = pictured image.entry in
+        sampled_told result ≡ answer_of (reading_checks g p column row) (reading_of (chosen quantity) g p column row) }
 {
-    parts_of(reading(filter, width, height, pixels, column, row, quantity))
+    reading(filter_of(block), image, column, row, quantity)
+}
+
+// The grey that was read, and its leftover.
+fn shade_of(sample: Sample) -> Shade
+    requires { (g : ℕ) × (l : ℤ) × (sample_told sample ≡ gray_reading g l) }
+    ensures { sample_told sample ≡ gray_reading result.gray result.leftover }
+{
+    let Sample::Gray { gray, leftover } = sample else {
+        unreachable!()
+    };
+    Shade { gray, leftover }
 }
 
 // The grey at one picture place, and its leftover: 1 to 6, 15.
@@ -145,15 +119,20 @@ pub extern "C" fn bore_sample_gray(
         (result ≡ first cs) × (gray.new ≡ lent cs (same_gray g p column row) gray.old)
         × (leftover.new ≡ lent cs (same_leftover g p column row) leftover.old) }
 {
-    let filter = filter_of(block);
-    let for_gray = Quantity::Gray;
-    let parts = read(for_gray, filter, width, height, pixels, column, row);
-    if parts.refusal == 0 {
-        let left = parts.leftover;
-        *gray = parts.gray;
-        *leftover = left;
+    let image = Image {
+        width,
+        height,
+        pixels,
+    };
+    match read(block, image, column, row, Quantity::Gray) {
+        Ok(sample) => {
+            let shade = shade_of(sample);
+            *gray = shade.gray;
+            *leftover = shade.leftover;
+            0
+        }
+        Err(refusal) => refusal.number(),
     }
-    parts.refusal
 }
 
 // The exact sum at one picture place: 1 to 6, 15.
@@ -171,13 +150,21 @@ pub extern "C" fn bore_sample_sum(
         let cs = reading_checks g p column row in
         (result ≡ first cs) × (sum.new ≡ lent cs (same_sum g p column row) sum.old) }
 {
-    let filter = filter_of(block);
-    let for_sum = Quantity::Sum;
-    let parts = read(for_sum, filter, width, height, pixels, column, row);
-    if parts.refusal == 0 {
-        *sum = parts.sum;
+    let image = Image {
+        width,
+        height,
+        pixels,
+    };
+    match read(block, image, column, row, Quantity::Sum) {
+        Ok(sample) => {
+            let Sample::Sum(exact) = sample else {
+                unreachable!()
+            };
+            *sum = exact;
+            0
+        }
+        Err(refusal) => refusal.number(),
     }
-    parts.refusal
 }
 
 // The quotient of sum and inside weight at one picture place: 1 to 6, 15.
@@ -195,11 +182,19 @@ pub extern "C" fn bore_sample_mean(
         let cs = reading_checks g p column row in
         (result ≡ first cs) × (mean.new ≡ lent cs (same_quotient g p column row) mean.old) }
 {
-    let filter = filter_of(block);
-    let for_mean = Quantity::Mean;
-    let parts = read(for_mean, filter, width, height, pixels, column, row);
-    if parts.refusal == 0 {
-        *mean = parts.mean;
+    let image = Image {
+        width,
+        height,
+        pixels,
+    };
+    match read(block, image, column, row, Quantity::Mean) {
+        Ok(sample) => {
+            let Sample::Mean(quotient) = sample else {
+                unreachable!()
+            };
+            *mean = quotient;
+            0
+        }
+        Err(refusal) => refusal.number(),
     }
-    parts.refusal
 }

@@ -4,7 +4,7 @@
 use mathlib.Core.Path.{◌≡◌, refl, sym, ap, ap₂, subst, ◌∙◌}
 use mathlib.Core.List.{List, ◌∷◌, ◌++◌, append-nil, append_assoc}
 use Prim.Native.Nat.{ℕ, suc, ◌+◌, ◌-◌, ◌≤◌, ◌<◌}
-use native.Mathlib.Nat.{le_refl, add-sub_of_le, sub-zero}
+use native.Mathlib.Nat.{le_refl, add-sub_of_le}
 use native.Mathlib.Decide.{dec_lt}
 use native.Mathlib.Numerals.{add-one}
 use native.Mathlib.Omega.{arith}
@@ -231,9 +231,9 @@ alike d xs c ys a e h l g = length_between d xs a e h l ∙ sym (length_between 
 
 -- a front of a slice was lent and came back as ys, and the rest was not lent
 pub front_lent : {A : Type 0} (lent front : ℕ) → lent ≡ front → (ys old : List A) → length ys ≡ lent
-    → ys ++ drop (lent - 0) old ≡ take front (ys ++ drop (lent - 0) old) ++ drop front old
+    → ys ++ drop lent old ≡ take front (ys ++ drop lent old) ++ drop front old
 front_lent lent front q ys old e =
-    ap₂ ◌++◌ (sym (take_at ys (drop (lent - 0) old) front (e ∙ q))) (ap (λ n. drop n old) (sub-zero lent ∙ q))
+    ap₂ ◌++◌ (sym (take_at ys (drop lent old) front (e ∙ q))) (ap (λ n. drop n old) q)
 
 -- all of a list was copied over the front of another of its length
 pub copied_whole : {A : Type 0} (xs old : List A) → length xs ≡ length old → take (length xs) xs ++ drop (length xs) old ≡ xs

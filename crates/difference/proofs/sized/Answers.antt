@@ -6,10 +6,10 @@ use borrow.Author.Rules.{rules}
 use lib.Seq.{length-take-le}
 use Rattle.std.proofs.lemmas.Result.{err_from_is_err_and}
 use Rattle.spec.specs.Picture.{pictured}
+use Rattle.laws.proofs.Slices.{front_lent}
 use Rattle.laws.proofs.Refusals.{written_not, written_all}
 use Rattle.laws.proofs.Results.{number_not_zero}
 use Rattle.difference.specs.Pairs.{BothAccepted}
-use Rattle.difference.proofs.Parts.{front_came}
 use Rattle.difference.proofs.Planning.{first_moderate, second_moderate, plan_refused, plan_none, plan_accepted}
 use Rattle.difference.proofs.sized.Goals as goal
 
@@ -53,5 +53,5 @@ returns c =
     let ok = plan_accepted c.args.a c.args.b p _ _ q.0 q.1 q.2 _ c.in_ok-plan.ensures in
     written_all _ _ _ _ _ (plan_none _ _ p _ _ q.0 q.1 q.2 _ c.in_ok-plan.ensures)
     _ _ c.run.ensures
-    (front_came _ _ ok.both.cells c.run.new.cells c.args.cells.now (c.run.auto.cells ∙ length-take-le _ c.args.cells.now ok.enough))
+    (front_lent _ _ ok.both.cells c.run.new.cells c.args.cells.now (c.run.auto.cells ∙ length-take-le _ c.args.cells.now ok.enough))
     (search rules)

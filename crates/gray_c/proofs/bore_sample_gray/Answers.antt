@@ -1,40 +1,31 @@
--- `gray_c::bore_sample_gray` meets its contract: the grey and its leftover of `read`, for the recipe that is given.
+-- `gray_c::bore_sample_gray` meets its contract: the grey that was read and its leftover, or a refusal.
 -- Assumes nothing.
 use mathlib.Core.Path.{sym, ◌∙◌}
 use borrow.Author.Rules.{rules}
 use mir.Syntax.{w64}
 use mir.Val.{SFits}
 use mir.ValLaws.{to_z-of_z}
-use Rattle.spec.specs.Recipe.{recipe}
-use Rattle.spec.specs.Picture.{picture}
-use Rattle.spec.specs.Gray.{as_gray, expressed, place_weight, same_gray, same_leftover, reading}
-use Rattle.spec.specs.Refusals.{answer, reading_checks}
-use Rattle.laws.proofs.Refusals.{lent_refused, lent_accepted}
-use Rattle.blocks.specs.Given.{given}
-use Rattle.gray_c.specs.Parted.{Parted}
-use Rattle.gray_c.proofs.Parting.{is_read, refusal_is}
-use Rattle.gray_c.proofs.bore_sample_gray.Lts
-use Rattle.gray_c.proofs.bore_sample_gray.Reads
-use Rattle.gray_c.proofs.bore_sample_gray.Tie
+use Rattle.spec.specs.Gray.{as_gray}
+use Rattle.gray_c.proofs.Telling.{refused, kept, accepted, put, is_gray, is_shade}
 use Rattle.gray_c.proofs.bore_sample_gray.Goals as goal
 
--- the parts are those of the reading
-told : (c : Lts.After-read Tie.the-claims Reads.Pre Reads.Post) → let args = c.args in
-    let r = recipe (given args.block.now) in let p = picture args.width args.height args.pixels.now in
-    Parted (answer (reading_checks r p args.column args.row) (reading as_gray r p args.column args.row)) c.read-parts.result
-told c = rw c.filter_of-filter.ensures at c.read-parts.ensures
+pub shade_of-shade-requires : goal.shade_of-shade-requires
+shade_of-shade-requires c = (_, _, is_gray _ _ _ _ _ c.in-Ok.ensures)
 
-pub returns-then-parts-eq0 : goal.returns-then-parts-eq0
-unfolding reading expressed place_weight same_gray same_leftover
-returns-then-parts-eq0 c =
-    let q = is_read _ _ _ (told c.before.before.before.before) c.if-parts-eq0.true in
-    let held : SFits w64 c.read-parts.result.leftover = search rules in (
-      sym (refusal_is _ _ _ (told c.before.before.before.before)),
-      q.1.0 ∙ sym (lent_accepted _ _ _ q.0),
-      to_z-of_z w64 _ held ∙ q.1.1 ∙ sym (lent_accepted _ _ _ q.0),
+pub returns-in-Ok : goal.returns-in-Ok
+returns-in-Ok c =
+    let told = c.in-Ok.ensures in
+    let same = is_shade _ _ _ _ _ told _ _ c.shade_of-shade.ensures in
+    let held : SFits w64 c.shade_of-shade.result.leftover = search rules in (
+      sym (accepted _ _ _ _ as_gray _ told),
+      put _ _ _ _ as_gray _ told _ _ _ same.0,
+      put _ _ _ _ as_gray _ told _ _ _ (to_z-of_z w64 _ held ∙ same.1),
     )
 
-pub returns-else-parts-eq0 : goal.returns-else-parts-eq0
-returns-else-parts-eq0 c =
-    let number = refusal_is _ _ _ (told c.before.before.before) in
-    (sym number, sym (lent_refused _ _ _ _ number c.if-parts-eq0.false), sym (lent_refused _ _ _ _ number c.if-parts-eq0.false))
+pub returns-in-Err : goal.returns-in-Err
+returns-in-Err c =
+    let told = c.in-Err.ensures in (
+      c.number.ensures ∙ sym (refused _ _ _ _ as_gray _ told),
+      kept _ _ _ _ as_gray _ told _ _,
+      kept _ _ _ _ as_gray _ told _ _,
+    )

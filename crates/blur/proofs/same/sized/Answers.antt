@@ -11,8 +11,9 @@ use Rattle.spec.specs.Recipe.{Recipe, recipe}
 use Rattle.spec.specs.Picture.{Sides, Picture, pictured, full_sides}
 use Rattle.spec.specs.Refusals.{first, number, size_checks, full_size}
 use Rattle.laws.proofs.Refusals.{Sized, is_sized, grown_most, picture_passed}
+use Rattle.laws.proofs.Slices.{front_lent}
 use Rattle.filter.specs.Answers.{sides}
-use Rattle.blur.proofs.Answering.{blur_pixels, blur_unlike, blur_cells, blur_none, blur_not, blur_all, front_came}
+use Rattle.blur.proofs.Answering.{blur_pixels, blur_unlike, blur_cells, blur_none, blur_not, blur_all}
 use Rattle.blur.proofs.same.sized.Goals as goal
 
 -- an accepted recipe and the sides of a picture, and the work cells that are needed
@@ -81,5 +82,5 @@ returns c =
     blur_all _ p _ _ _
     (blur_none _ p _ _ _ c.requires.0 c.if-image-size.false c.if-out-size.false c.if-leftovers-size.false (omega (arith, c.if-cells-needed.false, is)))
     _ _ _ run.ensures.0 run.ensures.1
-    (front_came _ _ is run.new.cells c.args.cells.now (run.auto.cells ∙ length-take-le _ c.args.cells.now c.if-cells-needed.false))
+    (front_lent _ _ is run.new.cells c.args.cells.now (run.auto.cells ∙ length-take-le _ c.args.cells.now c.if-cells-needed.false))
     (search rules)
