@@ -20,8 +20,8 @@ use spec::{Filter, Image, Refusal};
 
 // The grown sides of a picture: refused by 1 to 6.
 fn picture_size(filter: Filter, image: Image) -> Result<Sides, Refusal>
-    ensures { let p = pictured image.entry in
-        size_told result ≡ answer (picture_checks (recipe filter) p) (full_sides (recipe filter) p.width p.height) }
+    ensures { let r = recipe filter in let p = pictured image.entry in
+        size_told result ≡ answer (picture_checks r p) (full_sides r p.width p.height) }
 {
     let sides = filter::full_size(filter, image.width, image.height)?;
     if image.pixels.len() != image.width * image.height {
@@ -30,8 +30,8 @@ fn picture_size(filter: Filter, image: Image) -> Result<Sides, Refusal>
     Ok(sides)
 }
 
-// The same, and whether the slices for R, for C and for the sums are as long as these sides ask: refused
-// by 1 to 7.
+// Whether a picture is accepted, and slices of these lengths for R, for C and for all sums: refused by 1
+// to 7.
 fn check_lengths(
     filter: Filter,
     image: Image,
@@ -39,7 +39,8 @@ fn check_lengths(
     columns: usize,
     out: usize,
 ) -> Result<(), Refusal>
-    ensures { outcome result ≡ first (direct_checks (recipe filter) (pictured image.entry) rows columns out) }
+    ensures { outcome result
+        ≡ first (direct_checks (recipe filter) (pictured image.entry) rows columns out) }
 {
     let sides = picture_size(filter, image)?;
     if rows != sides.width - image.width + 1

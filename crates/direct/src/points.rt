@@ -24,8 +24,8 @@ pub struct Point {
 
 // The grown sides of a picture that has a place at this column and row: refused by 1 to 6 and 15.
 fn check_place(filter: Filter, image: Image, column: usize, row: usize) -> Result<Sides, Refusal>
-    ensures { let p = pictured image.entry in
-        size_told result ≡ answer (reading_checks (recipe filter) p column row) (full_sides (recipe filter) p.width p.height) }
+    ensures { let r = recipe filter in let p = pictured image.entry in
+        size_told result ≡ answer (reading_checks r p column row) (full_sides r p.width p.height) }
 {
     let sides = picture_size(filter, image)?;
     if image.width <= column || image.height <= row {
@@ -37,8 +37,10 @@ fn check_place(filter: Filter, image: Image, column: usize, row: usize) -> Resul
 // The inside weight at grown column i, row j.
 fn weight_at(image: Image, kernels: Kernels, i: usize, j: usize) -> u64
     requires ready { Ready kernels.rows.now kernels.columns.now (pictured image) }
-    requires inside { (i + 1 < image.width + length kernels.rows.now) × (j + 1 < image.height + length kernels.columns.now) }
-    ensures { result ≡ through kernels.entry.rows.now (ones image.entry.width) i * through kernels.entry.columns.now (ones image.entry.height) j }
+    requires across { i + 1 < image.width + length kernels.rows.now }
+    requires below { j + 1 < image.height + length kernels.columns.now }
+    ensures { let p = image.entry in let k = kernels.entry in
+        result ≡ through k.rows.now (ones p.width) i * through k.columns.now (ones p.height) j }
 {
     inside(kernels.rows, i, image.width) * inside(kernels.columns, j, image.height)
 }
@@ -53,10 +55,13 @@ fn window_sum(
     j: usize,
 ) -> Result<Point, Refusal>
     requires accepted_picture { AcceptedPicture (recipe filter) (pictured image) }
-    requires rows_len { (length rows.old ≡ order (recipe filter).rows + 1) × (length columns.old ≡ order (recipe filter).columns + 1) }
-    requires i_bound { (i < image.width + order (recipe filter).rows) × (j < image.height + order (recipe filter).columns) }
-    ensures { let p = pictured image.entry in
-        result ≡ Ok (record { sum = exact (recipe filter) p i j; weight = axis (recipe filter).rows p.width i * axis (recipe filter).columns p.height j }) }
+    requires rows_len { length rows.old ≡ order (recipe filter).rows + 1 }
+    requires columns_len { length columns.old ≡ order (recipe filter).columns + 1 }
+    requires i_bound { i < image.width + order (recipe filter).rows }
+    requires j_bound { j < image.height + order (recipe filter).columns }
+    ensures { let r = recipe filter in let p = pictured image.entry in
+        let weight = axis r.rows p.width i * axis r.columns p.height j in
+        result ≡ Ok (record { sum = exact r p i j; weight = weight }) }
 {
     filter::kernel(filter.rows, rows)?;
     filter::kernel(filter.columns, columns)?;

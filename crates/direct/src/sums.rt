@@ -18,8 +18,11 @@ pub(crate) struct Kernels<'a> {
 
 // The sum along a line at i.
 fn across(line: &[u8], kernel: &[u64], i: usize) -> u64
-    requires { (0 < length line.now) × (i + 1 < length line.now + length kernel.now) × (mass kernel.now ≤ 2 ^ 44) }
-    ensures { (result ≡ through kernel.now (at line.now) i) × (result ≤ 65535 * mass kernel.now) }
+    requires some { 0 < length line.now }
+    requires reach { i + 1 < length line.now + length kernel.now }
+    requires light { mass kernel.now ≤ 2 ^ 44 }
+    ensures value { result ≡ through kernel.now (at line.now) i }
+    ensures bound { result ≤ 65535 * mass kernel.now }
 {
     let start = (i + 1).saturating_sub(line.len());
     let end = kernel.len().min(i + 1);
@@ -33,8 +36,12 @@ fn across(line: &[u8], kernel: &[u64], i: usize) -> u64
 
 // The coefficients of the window at i that fall inside a line of n places, added up.
 pub(crate) fn inside(kernel: &[u64], i: usize, n: usize) -> u64
-    requires { (0 < n) × (n ≤ 1024) × (i + 1 < n + length kernel.now) × (mass kernel.now ≤ 2 ^ 44) }
-    ensures { (result ≡ through kernel.now (ones n) i) × (result ≤ mass kernel.now) }
+    requires some { 0 < n }
+    requires few { n ≤ 1024 }
+    requires reach { i + 1 < n + length kernel.now }
+    requires light { mass kernel.now ≤ 2 ^ 44 }
+    ensures value { result ≡ through kernel.now (ones n) i }
+    ensures bound { result ≤ mass kernel.now }
 {
     let start = (i + 1).saturating_sub(n);
     let end = kernel.len().min(i + 1);
@@ -55,7 +62,8 @@ fn row_of<'a>(image: Image<'a>, v: usize) -> &'a [u8]
 // The sum over the rows of the window at column i, row j.
 pub(crate) fn down(image: Image, kernels: Kernels, i: usize, j: usize) -> u64
     requires ready { Ready kernels.rows.now kernels.columns.now (pictured image) }
-    requires inside { (i + 1 < image.width + length kernels.rows.now) × (j + 1 < image.height + length kernels.columns.now) }
+    requires across { i + 1 < image.width + length kernels.rows.now }
+    requires below { j + 1 < image.height + length kernels.columns.now }
     ensures { result ≡ window kernels.entry.rows.now kernels.entry.columns.now (pictured image.entry) i j }
 {
     let start = (j + 1).saturating_sub(image.height);
@@ -70,7 +78,8 @@ pub(crate) fn down(image: Image, kernels: Kernels, i: usize, j: usize) -> u64
 // Grown row j.
 fn row(image: Image, kernels: Kernels, j: usize, out: &mut [u64])
     requires ready { Ready kernels.rows.now kernels.columns.now (pictured image) }
-    requires out_len { (length out.old + 1 ≡ image.width + length kernels.rows.now) × (j + 1 < image.height + length kernels.columns.now) }
+    requires out_len { length out.old + 1 ≡ image.width + length kernels.rows.now }
+    requires below { j + 1 < image.height + length kernels.columns.now }
     ensures { out.new ≡ tab (length out.old) (λ i. window kernels.entry.rows.now kernels.entry.columns.now (pictured image.entry) i j) }
 {
     for (i, sum) in out.iter_mut().enumerate() {

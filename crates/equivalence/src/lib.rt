@@ -15,8 +15,10 @@ use spec::{Cascade, Filter, Refusal};
 
 // How often each width occurs in a cascade, with widths of 1 struck out. Every width is a byte.
 fn tally(list: Cascade, counts: &mut [u8; 256])
-    requires { (list.count ≤ 48) × (counts.old ≡ replicate 256 0) }
-    ensures { (counts.new ≡ tally_of (widths list)) × (everywhere byte (widths list) ≡ true) }
+    requires short { list.count ≤ 48 }
+    requires zeros { counts.old ≡ replicate 256 0 }
+    ensures counted { counts.new ≡ tally_of (widths list) }
+    ensures bytes { everywhere byte (widths list) ≡ true }
 {
     for &n in list.boxes() {
         counts[usize::from(n)] += 1;
@@ -37,7 +39,8 @@ fn agree(a: &[u8; 256], b: &[u8; 256]) -> bool
 
 // Whether every width but 1 occurs as often in one cascade as in another.
 fn same_counts(a: Cascade, b: Cascade) -> bool
-    requires { (a.count ≤ 48) × (b.count ≤ 48) }
+    requires a_short { a.count ≤ 48 }
+    requires b_short { b.count ≤ 48 }
     ensures { result ≡ same_counts (widths a) (widths b) }
 {
     let mut of_a = [0u8; 256];

@@ -14,10 +14,10 @@ returns-in_err-check_both c =
     rw (p.1, p.2) (told_err (λ (b : Bool). b) (compare_checks (recipe c.args.a) (recipe c.args.b)) (equivalent (recipe c.args.a) (recipe c.args.b)) _ (sym c.in_err-check_both.ensures))
 
 pub same_counts-requires : goal.same_counts-requires
-same_counts-requires c = let short = lists_short c.args.a c.args.b c.in_ok-check_both.ensures in (short.0.0, short.1.0)
+same_counts-requires c = let short = lists_short c.args.a c.args.b c.in_ok-check_both.ensures in record { a_short = short.0.0; b_short = short.1.0 }
 
 pub same_counts-requires-then-same_counts : goal.same_counts-requires-then-same_counts
-same_counts-requires-then-same_counts c = let short = lists_short c.args.a c.args.b c.in_ok-check_both.ensures in (short.0.1, short.1.1)
+same_counts-requires-then-same_counts c = let short = lists_short c.args.a c.args.b c.in_ok-check_both.ensures in record { a_short = short.0.1; b_short = short.1.1 }
 
 pub returns-then-same_counts : goal.returns-then-same_counts
 returns-then-same_counts c =

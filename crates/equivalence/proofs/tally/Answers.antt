@@ -5,7 +5,7 @@ use Rattle.equivalence.proofs.Tallies.{tallied_none, tally_small, tallied_more, 
 use Rattle.equivalence.proofs.tally.Goals as goal
 
 pub loop-n-init : goal.loop-n-init
-loop-n-init c = rw c.requires.1 (tallied_none _)
+loop-n-init c = rw c.requires.zeros (tallied_none _)
 
 pub overflow_add-counts : goal.overflow_add-counts
 overflow_add-counts c =
@@ -17,4 +17,4 @@ loop-n-preserved c = tallied_more _ _ _ c.loop-n.invariant c.loop-n-test.true c.
 pub returns : goal.returns
 returns c =
     let all = tallied_all _ _ _ c.loop-n.invariant c.loop-n-test.false in
-    rw (← boxes_all c.args.list _ c.boxes-n-items.ensures c.requires.0) all
+    rw (← boxes_all c.args.list _ c.boxes-n-items.ensures c.requires.short) (record { counted = all.0; bytes = all.1 })

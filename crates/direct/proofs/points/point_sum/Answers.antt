@@ -47,12 +47,16 @@ pub window_sum-requires-clause-accepted_picture : goal.window_sum-requires-claus
 window_sum-requires-clause-accepted_picture c = (is_placed (recipe c.args.filter) (pictured c.args.image) _ _ _ c.in_ok-sides.ensures).picture
 
 pub window_sum-requires-clause-rows_len : goal.window_sum-requires-clause-rows_len
-window_sum-requires-clause-rows_len c =
-    let g = is_placed (recipe c.args.filter) (pictured c.args.image) _ _ _ c.in_ok-sides.ensures in
-    (simp length-take (omega (arith, g.width, g.picture.recipe.row_reach)), simp length-take (omega (arith, g.height, g.picture.recipe.column_reach)))
+window_sum-requires-clause-rows_len c = let g = is_placed (recipe c.args.filter) (pictured c.args.image) _ _ _ c.in_ok-sides.ensures in simp length-take (omega (arith, g.width, g.picture.recipe.row_reach))
+
+pub window_sum-requires-clause-columns_len : goal.window_sum-requires-clause-columns_len
+window_sum-requires-clause-columns_len c = let g = is_placed (recipe c.args.filter) (pictured c.args.image) _ _ _ c.in_ok-sides.ensures in simp length-take (omega (arith, g.height, g.picture.recipe.column_reach))
 
 pub window_sum-requires-clause-i_bound : goal.window_sum-requires-clause-i_bound
-window_sum-requires-clause-i_bound c = let g = is_placed (recipe c.args.filter) (pictured c.args.image) _ _ _ c.in_ok-sides.ensures in (omega (arith, g.width, g.column), omega (arith, g.height, g.row))
+window_sum-requires-clause-i_bound c = let g = is_placed (recipe c.args.filter) (pictured c.args.image) _ _ _ c.in_ok-sides.ensures in omega (arith, g.width, g.column)
+
+pub window_sum-requires-clause-j_bound : goal.window_sum-requires-clause-j_bound
+window_sum-requires-clause-j_bound c = let g = is_placed (recipe c.args.filter) (pictured c.args.image) _ _ _ c.in_ok-sides.ensures in omega (arith, g.height, g.row)
 
 pub returns : goal.returns
 returns c =

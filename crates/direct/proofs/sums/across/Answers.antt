@@ -14,7 +14,7 @@ loop-coefficient-init c =
       search rules,
       search rules,
       weighed_start c.args.kernel.now (at line) c.args.i 65535 (length line) _
-          (λ k h. get_or-eq_default line 0 h) (omega arith) c.requires.0,
+          (λ k h. get_or-eq_default line 0 h) (omega arith) c.requires.some,
     )
 
 -- one term more, of which the total so far is a part
@@ -39,7 +39,7 @@ next c =
 fits : (c : goal.After-from) → c.loop-coefficient.total + c.in-Some.coefficient.now * c.from.result ≤ 65535 * 2 ^ 44
 fits c =
     let n = next c in
-    omega (arith, weighed_fits c.args.kernel.now (at c.args.line.now) c.args.i 65535 n.1 (omega (arith, n.0)), c.requires)
+    omega (arith, weighed_fits c.args.kernel.now (at c.args.line.now) c.args.i 65535 n.1 (omega (arith, n.0)), c.requires.light)
 
 pub overflow_mul-total : goal.overflow_mul-total
 overflow_mul-total c = omega (arith, fits c)
@@ -64,7 +64,8 @@ returns c =
     let args = c.args in
     let turn = c.loop-coefficient in
     let done = end args.kernel.now args.line.now args.i c.saturating_sub-start.result c.min-end.result (search rules) (search rules)
-    c.into_iter-coefficient-iterator.result c.loop-coefficient.coefficient-iterator c.next.new.self (cc) (cc) turn.yielded turn.yielded_by _ c.next.ensures.steps c.in-None.is in (
-      weighed_all args.kernel.now (at args.line.now) args.i 65535 turn.invariant.2 (omega (arith, done)),
-      weighed_fits args.kernel.now (at args.line.now) args.i 65535 turn.invariant.2 (omega (arith, done)),
-    )
+    c.into_iter-coefficient-iterator.result c.loop-coefficient.coefficient-iterator c.next.new.self (cc) (cc) turn.yielded turn.yielded_by _ c.next.ensures.steps c.in-None.is in
+    record {
+      value = weighed_all args.kernel.now (at args.line.now) args.i 65535 turn.invariant.2 (omega (arith, done));
+      bound = weighed_fits args.kernel.now (at args.line.now) args.i 65535 turn.invariant.2 (omega (arith, done));
+    }

@@ -27,8 +27,8 @@ next c =
     let i = c.args.i in
     weighed_more c.args.kernels.columns.now (λ v. through rows (line (pictured c.args.image) v) i) c.args.j (65535 * mass rows)
     c.across.result c.loop-b.invariant (omega arith)
-    (c.across.ensures.0 ∙ through_agree rows (at c.row_of.result.now) (line (pictured c.args.image) (c.args.j - c.loop-b.b)) i c.row_of.ensures.pixels)
-    c.across.ensures.1
+    (c.across.ensures.value ∙ through_agree rows (at c.row_of.result.now) (line (pictured c.args.image) (c.args.j - c.loop-b.b)) i c.row_of.ensures.pixels)
+    c.across.ensures.bound
 
 fits : (c : goal.After-across) → c.loop-b.total + get_or c.args.kernels.columns.now c.loop-b.b 0 * c.across.result ≤ 65535 * 2 ^ 44
 fits c =

@@ -23,4 +23,7 @@ returns c =
     let all = window_ones ks c.args.n c.args.i s e c.saturating_sub-start.ensures c.min-end.ensures (omega arith) (omega arith) in
     let total : c.sum.result ≡ sum (take (e - s) (drop s ks)) =
     sum_from_yields_List c.iter.result _ c.sum.ensures.ran (YieldsList-from_slice (take (e - s) (drop s ks)) cc) in
-    (total ∙ weighed_all ks _ c.args.i 1 all c.min-end.ensures, rw total (omega (arith, weighed_fits ks _ c.args.i 1 all (omega arith))))
+    record {
+      value = total ∙ weighed_all ks _ c.args.i 1 all c.min-end.ensures;
+      bound = rw total (omega (arith, weighed_fits ks _ c.args.i 1 all (omega arith)));
+    }
