@@ -38,6 +38,7 @@ fn eights(n: usize, row: &mut [u64]) -> usize
     ensures { Leftwards (less_earlier n row.old) row.old result row.new }
 {
     let mut from = row.len();
+    // counted by hand: of an iterator over parts that are written nothing is known afterwards
     while n + 8 <= from {
         from -= 8;
         eight_apart(n, from, row);
@@ -51,6 +52,7 @@ fn apart(n: usize, row: &mut [u64])
     ensures { row.new ≡ differences n row.old }
 {
     let end = eights(n, row);
+    // by place: each value needs the one n places earlier
     for k in (n..end).rev() {
         row[k] = row[k].wrapping_sub(row[k - n]);
     }

@@ -39,7 +39,7 @@ fn run_start(weights: &[u64], at: usize) -> usize
     0
 }
 
-// Where it ends.
+// Where it ends: a loop of its own, since it goes the other way.
 fn run_end(weights: &[u64], at: usize) -> usize
     requires { at < length weights.now }
     ensures { (at < result) × (result ≤ length weights.now)

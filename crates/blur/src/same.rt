@@ -60,7 +60,8 @@ fn gray_rows(
     }
 }
 
-// Starts the one pass, and passes over so many grown rows, those above the first that is taken.
+// Starts the one pass, and passes over so many grown rows, those above the first that is taken. (So does
+// `begin` in `difference`: a call that both crates share would have to answer for every argument.)
 fn begin(
     filter: Filter,
     sides: Sides,

@@ -13,14 +13,11 @@ ghost use Rattle.gray.specs.Division.{Divides, Bounded};
 ghost use Rattle.difference.specs.Pairs.{BothTaken, BothAccepted, Moderate, measured_checks, grown_cells, plan_checks, plan_of};
 ghost use Rattle.difference.specs.Differenced.{Differenced};
 
-use filter::{Measures, full_size, measure};
+use filter::{HEAVIEST, Measures, full_size, measure};
 use gray::Divisor;
 use rows::{advance, skip};
 use spec::{Filter, Image, Refusal};
 use stream::{State, start};
-
-// The largest weight, and the largest product of two.
-const HEAVIEST: u64 = 17_592_186_044_416;
 
 // (x - y) over what `by` divides by, to the nearest whole number, a half away from zero. It is rounded
 // once, whatever the sign, so that a loop has no branch on the sign.
@@ -104,6 +101,7 @@ fn differences(mut a: Pass, mut b: Pass, by: Divisor, pixels: &[u8], out: &mut [
         out.new ≡ places p (differenceOf (recipe a.entry.state.filter) (recipe b.entry.state.filter) p) }
 {
     let width = a.state.width;
+    // by number: of an iterator over parts that are written nothing is known afterwards
     for j in 0..a.state.height {
         next_rows(&mut a, &mut b, pixels);
         let first = a.taken();
@@ -187,7 +185,7 @@ fn run(a: Operand, b: Operand, image: Image, middle: usize, out: &mut [i16], cel
 }
 
 // 12 and 13: the reaches differ in parity on an axis, or the product of the weights is too large. That
-// product need not fit 64 bits, so the limit is divided by one of them.
+// product need not fit 64 bits, so the limit, that of a single weight, is divided by one of them.
 fn pair_refusal(m: Measures, n: Measures) -> Result<(), Refusal>
     requires { 0 < m.gain }
     ensures { outcome result ≡ first (measured_checks m n) }

@@ -69,6 +69,7 @@ pub(crate) fn down(image: Image, kernels: Kernels, i: usize, j: usize) -> u64
     let start = (j + 1).saturating_sub(image.height);
     let end = kernels.columns.len().min(j + 1);
     let mut total: u64 = 0;
+    // by number: the coefficient and the picture row run against each other
     for b in start..end {
         total += kernels.columns[b] * across(row_of(image, j - b), kernels.rows, i);
     }
@@ -94,6 +95,7 @@ pub(crate) fn form(image: Image, kernels: Kernels, out: &mut [u64])
     ensures { out.new ≡ windows kernels.entry.rows.now kernels.entry.columns.now (pictured image.entry) }
 {
     let grown_width = image.width + kernels.rows.len() - 1;
+    // by number: of an iterator over parts that are written nothing is known afterwards
     for j in 0..image.height + kernels.columns.len() - 1 {
         let from = j * grown_width;
         row(image, kernels, j, &mut out[from..from + grown_width]);

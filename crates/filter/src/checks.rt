@@ -7,7 +7,7 @@ ghost use Rattle.filter.specs.Measured.{measured};
 use spec::{Cascade, Filter, Refusal};
 
 // The largest weight, and what stands for every weight above it.
-const HEAVIEST: u64 = 17_592_186_044_416;
+pub const HEAVIEST: u64 = 17_592_186_044_416;
 
 const TOO_HEAVY: u64 = 17_592_186_044_417;
 

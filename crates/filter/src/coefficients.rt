@@ -39,6 +39,7 @@ fn difference(out: &mut [u64], n: usize)
     requires { (k : ℕ) → k < length out.old → behind (at out.old) n k ≤ at out.old k }
     ensures { out.new ≡ tab (length out.old) (λ k. at out.old k - behind (at out.old) n k) }
 {
+    // by place: each entry needs the one n places earlier
     for k in (n..out.len()).rev() {
         out[k] -= out[k - n];
     }

@@ -26,6 +26,7 @@ fn box_inside(kernel: &mut [u64], out: &mut [u64])
     let side = out.len();
     let last = kernel.len() - 1;
     let half = last / 2;
+    // by place: each takes totals from two other places
     for k in 0..side {
         let i = k + half;
         let here = if i < last { kernel[i] } else { kernel[last] };

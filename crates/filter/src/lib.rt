@@ -10,7 +10,7 @@ mod sizes;
 mod zeros;
 
 pub use card::{Scale, moments};
-pub use checks::{Measures, check, measure};
+pub use checks::{HEAVIEST, Measures, check, measure};
 pub use coefficients::kernel;
 pub use inside::axis_weights;
 pub use sizes::{Sides, full_size};

@@ -94,6 +94,7 @@ fn levels(level: usize, axes: Axes, full_width: usize, buffers: &mut Buffers)
         Below (length buffers.old.out.now) (filtered r full_width (at (held buffers.old))) (held buffers.new) }
 {
     buffers.carry(level_filter(axes, 1), full_width);
+    // by number: a rung is named by its place
     for i in 3..level + 2 {
         buffers.carry(rung_at(axes, i), full_width);
     }

@@ -62,6 +62,7 @@ pub(crate) fn column_pass(step: usize, n: usize, src: &[u64], dst: &mut [u64])
     let size = src.len();
     let first = step.min(size);
     dst[..first].copy_from_slice(&src[..first]);
+    // by number: each row is made of three other places
     for j in 1..size.div_ceil(step) {
         let here = j * step;
         let width = step.min(size - here);

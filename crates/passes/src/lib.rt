@@ -26,7 +26,8 @@ use filter::Sides;
 use spec::{Filter, Image, Refusal};
 
 // The passes of an accepted recipe over an accepted picture. They go from one buffer to the other and
-// back, and begin so that the last ends in `out`.
+// back, and begin so that the last ends in `out`. (`climb` is alike: with what differs as a closure the
+// contract would be longer than both.)
 fn run(filter: Filter, image: Image, full_width: usize, out: &mut [u64], work: &mut [u64])
     requires accepted { AcceptedPicture (recipe filter) (pictured image) }
     requires grown_width { full_width ≡ full_width_of (recipe filter) image.width }

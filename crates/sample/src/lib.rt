@@ -31,7 +31,8 @@ pub enum Sample {
     Mean(f64),
 }
 
-// The quotient of a sum and a weight that 64-bit floats hold, by one division.
+// The quotient of a sum and a weight that 64-bit floats hold, by one division. (So is `ratio` in `filter`,
+// which asks the same; what one crate offers another asks nothing.)
 fn mean(sum: u64, weight: u64) -> f64
     requires { (sum ≤ 2 ^ 53) × (weight ≤ 2 ^ 53) }
     ensures { result ≡ ratioOf sum weight }

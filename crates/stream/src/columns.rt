@@ -42,6 +42,7 @@ impl Stages for Pairs {
     ghost made = { λ s from. pairs_from from s.width s.count };
 
     fn apply(&self, from: usize, x: &mut [u64], own: &mut [u64]) {
+        // by number: of an iterator over parts that are written nothing is known afterwards
         for s in 0..self.count {
             let at = s * self.width + from;
             let to = at + x.len();
@@ -150,6 +151,7 @@ fn sweep<S: Stages>(stages: &S, row: &mut [u64], own: &mut [u64])
         (row.new ≡ done.row) × (own.new ≡ done.cells) }
 {
     let blocks = row.len() / 8;
+    // by number, for the same reason as in `Pairs`
     for k in 0..blocks {
         block(stages, 8 * k, row, own);
     }
@@ -279,6 +281,7 @@ pub(crate) fn down(widths: &[u8], emitted: usize, row: &mut [u64], cells: &mut [
     let mut rest = widths;
     let mut sum = 0;
     let mut start = 0;
+    // not by an iterator: each group has a length of its own
     while !rest.is_empty() {
         let (now, later) = rest.split_at(run(rest));
         let end = start + row.len() * cascade_cells(now);

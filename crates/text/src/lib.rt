@@ -29,6 +29,7 @@ fn spell(n: u64, out: &mut [u8])
 {
     let pairs = digit_pairs();
     let mut rest = n;
+    // counted by hand: two bytes a turn from the end, which an iterator says no plainer
     let mut k = out.len();
     while 1 < k {
         k -= 2;
@@ -81,7 +82,8 @@ pub fn line(numbers: &[u64], out: &mut [u8]) -> Result<usize, Refusal>
     Ok(fill(numbers, out))
 }
 
-// The line of a refusal, such as `refused 8`, at the front of `out`; its length.
+// The line of a refusal, such as `refused 8`, at the front of `out`; its length. It takes the number, since
+// it answers for each number of 8 bits.
 pub fn refusal_line(number: u8, out: &mut [u8; 64]) -> usize
     ensures { (result ≡ length (refusal_printed number)) × (out.new ≡ refusal_printed number ++ drop (length (refusal_printed number)) out.old) }
 {
