@@ -3,18 +3,18 @@
 use mathlib.Core.Path.{◌≡◌, refl, sym, ap, ap₂, ◌∙◌}
 use mathlib.Core.List.{List, [], ◌∷◌, ◌++◌, append-nil}
 use Prim.Native.Nat.{ℕ, zero, suc, ◌+◌, ◌-◌, ◌*◌, ◌/◌, ◌%◌, ◌^◌, ◌≤◌, ◌<◌}
-use native.Mathlib.Nat.{add-zero, mul_assoc, mod-eq_of_lt, div-add-mod, mul-add-div, mul-add-mod_self_left, div-div-eq-div-mul, not-suc-le-zero, le_of_suc-le-suc, zero-lt-suc, le_refl, one-le-pow, pow-suc}
+use native.Mathlib.Nat.{add-zero, mul_assoc, mod-eq_of_lt, div-add-mod, mul-add-div, mul-add-mod_self_left, div-div-eq-div-mul, not-suc-le-zero, le_of_suc-le-suc, zero-lt-suc, le_refl, one-le-pow, pow-suc, pow-le-pow_right, le-div_iff_mul-le, div-lt_iff_lt-mul}
 use native.Mathlib.Omega.{arith}
 use native.Mathlib.Decide.{dec_lt}
 use lib.ListN.{length, get_or, drop, set, length-append, length-set}
+use lib.Pow.{pow-add}
 use native.Mathlib.Numerals.{add-one}
 use lib.Seq.{append_snoc, drop-cons, drop-length, get_or-set_same, drop-set-lt}
 use borrow.Author.Tests.{lt-ltb, le-ltb}
-use Rattle.std.specs.Prelude.{Option, None, Some, IfNone, IfSome, unwrap_or}
 use Rattle.spec.specs.Words.{tab}
 use Rattle.spec.specs.Program.{decimal_digits, decimal}
 use Rattle.laws.proofs.Rows.{get_d_rows}
-use Rattle.text.specs.Private.{digit_pairs}
+use Rattle.text.specs.Private.{Counted, digit_pairs}
 
 -- the last digits of a number, as many as asked for, with zeros in front where it has fewer
 unfoldable pub places : ℕ → ℕ → List ℕ
@@ -65,12 +65,46 @@ pub length_decimal : (n : ℕ) → length (decimal n) ≤ 20
 unfolding decimal
 length_decimal n = digits_most 20 n
 
--- a number's digits by the largest power of 10 that it reaches, if any
-pub digits_reached : (n : ℕ) (o : Option ℕ) → IfNone o (n ≡ 0) → IfSome o (λ k. 10 ^ k ≤ n) → IfSome o (λ k. n < 10 * 10 ^ k) → IfSome o (λ k. k < 20)
-    → (unwrap_or o 0 + 1 ≡ length (decimal n)) × (unwrap_or o 0 + 1 ≤ 20)
+-- the powers of 10 that a 64-bit number can reach
+pub below_twenty : (k n : ℕ) → 10 ^ k ≤ n → n < 2 ^ 64 → k < 20
+below_twenty k n h g =
+    elim (dec_lt k 20) [
+      | yes l ↦ l
+      | no l ↦
+          let past : 20 ≤ k = omega arith in
+          let p : 10 ^ 20 ≤ 10 ^ k = pow-le-pow_right (zero-lt-suc 9) past in
+          absurd (omega arith)
+    ]
+
+-- how many digits a number has, from how many there are before its last k
+pub counted_past : (k : ℕ) {n r : ℕ} → 10 ^ k ≤ n → Counted (n / 10 ^ k) r → Counted n (r + k)
+counted_past k {n} {r} h c =
+    let p = one-le-pow k 10 (omega arith) in
+    let back : r + k - 1 ≡ r - 1 + k = omega (arith, c.some) in
+    let first : 10 ^ (r - 1) ≤ n / 10 ^ k =
+    elim (dec_lt 1 r) [
+      | yes g ↦ c.reached g
+      | no g ↦ let e : r - 1 ≡ 0 = omega arith in rw e ((le-div_iff_mul-le p).1 (omega arith))
+    ] in
+    record {
+      some = omega (arith, c.some);
+      below = rw (pow-add 10 r k) ((div-lt_iff_lt-mul p).0 c.below);
+      reached = λ g. rw (back, pow-add 10 (r - 1) k) ((le-div_iff_mul-le p).0 first);
+    }
+
+pub counted_length : {n r : ℕ} → n < 2 ^ 64 → Counted n r → (r ≡ length (decimal n)) × (r ≤ 20)
 unfolding decimal
-digits_reached n None z l h g = (omega (arith, length_digits 20 0 n (omega arith) (λ u. absurd (omega arith)) (omega arith)), omega arith)
-digits_reached n (Some k) z l h g = (omega (arith, length_digits 20 k n g (λ u. l) (omega (arith, pow-suc 10 k))), omega arith)
+counted_length {n} {r} g c =
+    let k = r - 1 in
+    let e : suc k ≡ r = omega (arith, c.some) in
+    let most : k < 20 =
+    elim (dec_lt 1 r) [
+      | yes l ↦ below_twenty k n (c.reached l) g
+      | no l ↦ omega arith
+    ] in (
+      sym (length_digits 20 k n most (λ l. c.reached (omega arith)) (rw e c.below) ∙ e),
+      omega arith,
+    )
 
 -- a number's digits are its last digits, as many as it has
 digits_places : (most n : ℕ) → decimal_digits most n ≡ places (length (decimal_digits most n)) n

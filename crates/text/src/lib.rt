@@ -4,15 +4,43 @@
 ghost use Rattle.std.specs.Prelude.{◌≡◌, ◌∷◌, ◌++◌, ◌+◌, ◌*◌, ◌≤◌, ◌<◌, length, drop};
 ghost use Rattle.spec.specs.Program.{decimal, line as line_of, refusal_printed};
 ghost use Rattle.text.specs.Printed.{Printed, line_told};
-ghost use Rattle.text.specs.Private.{digit_pairs};
+ghost use Rattle.text.specs.Private.{Counted, digit_pairs};
 
 use spec::Refusal;
 
-// How many decimal digits a number has.
+// How many decimal digits a number below 10^5 has. (`checked_ilog10` takes a tenth more of a text's time.)
+fn count_up_to_5(n: u64) -> usize
+    requires { n < 100000 }
+    ensures { Counted n result × (result ≤ 5) }
+{
+    match n {
+        0..=9 => 1,
+        10..=99 => 2,
+        100..=999 => 3,
+        1000..=9999 => 4,
+        _ => 5,
+    }
+}
+
+// The same below 10^10: of more than five digits, those before the last five are counted.
+fn count_up_to_10(n: u64) -> usize
+    requires { n < 10000000000 }
+    ensures { Counted n result × (result ≤ 10) }
+{
+    if n < 100000 {
+        return count_up_to_5(n);
+    }
+    count_up_to_5(n / 100000) + 5
+}
+
+// How many decimal digits a number has: of more than ten, those before the last ten are counted.
 fn digit_count(n: u64) -> usize
     ensures { (result ≡ length (decimal n)) × (result ≤ 20) }
 {
-    n.checked_ilog10().unwrap_or(0) as usize + 1
+    if n < 10000000000 {
+        return count_up_to_10(n);
+    }
+    count_up_to_10(n / 10000000000) + 10
 }
 
 // The two digits of each number of 0 to 99.

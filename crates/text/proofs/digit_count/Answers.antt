@@ -1,11 +1,11 @@
--- `text::digit_count` meets its contract: one digit more than the power of 10 that it reaches, and one for 0.
+-- `text::digit_count` meets its contract: ten digits more than there are before the last ten.
 -- Assumes nothing.
-use Rattle.std.proofs.Common.{◌≡◌, rules, unwrap_or}
-use Rattle.text.proofs.Digits.{digits_reached}
+use borrow.Author.Rules.{rules}
+use Rattle.text.proofs.Digits.{counted_past, counted_length}
 use Rattle.text.proofs.digit_count.Goals as goal
 
+pub returns-then-n-lt10000000000 : goal.returns-then-n-lt10000000000
+returns-then-n-lt10000000000 c = counted_length (search rules) c.count_up_to_10.ensures.0
+
 pub returns : goal.returns
-returns c =
-    let e = c.checked_ilog10.ensures in
-    let power : c.unwrap_or.result ≡ unwrap_or c.checked_ilog10.result 0 = search rules in
-    rw power (digits_reached c.args.n _ e.none e.power_le e.next_power_gt e.bound)
+returns c = counted_length (search rules) (counted_past 10 (search rules) c.count_up_to_10-2.ensures.0)
