@@ -72,6 +72,8 @@ impl<const N: usize> Stages for Rings<N> {
 
     ghost made = { λ s from. rings_from from s.slots N };
 
+    // inlined, as is `ring`, so that a block of eight is known to be one
+    #[inline(always)]
     fn apply(&self, from: usize, x: &mut [u64], own: &mut [u64]) {
         for slot in &self.slots {
             ring(x, slot.before + from, slot.oldest + from, own);
@@ -115,6 +117,7 @@ fn settle(x: &mut [u64], oldest: &[u64], totals: &[u64])
 
 // A width of 3 or more, by the first cells of its two slots for these columns. The oldest totals give way to
 // those with this row.
+#[inline(always)]
 fn ring(x: &mut [u64], before: usize, oldest: usize, own: &mut [u64])
     requires { (length x.old ≤ 8) × Apart before oldest (length x.old) (length own.old) }
     ensures { let made = column_slot before oldest x.old own.old in
