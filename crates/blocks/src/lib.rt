@@ -8,7 +8,8 @@ ghost use Rattle.blocks.specs.Given.{list_at, given, block_of};
 
 use spec::{Cascade, Filter};
 
-// The list that 49 bytes stand for.
+// The list that 49 bytes stand for. It is inlined, so that the length of the copy is known.
+#[inline(always)]
 fn list_at(bytes: &[u8]) -> Cascade
     requires { length bytes.now ≡ 49 }
     ensures { result ≡ list_at 0 bytes.now }
