@@ -100,7 +100,7 @@ fn fill(numbers: &[u64], out: &mut [u8]) -> usize
 }
 
 // Numbers on one line, in decimal, single spaces between, at the front of `out`, which has 21 bytes for
-// each number and one for the line's end; the line's length.
+// each number and one for the line's end; the line's length. Refused by 7.
 pub fn line(numbers: &[u64], out: &mut [u8]) -> Result<usize, Refusal>
     ensures { Printed numbers.now out.old (line_told result) out.new }
 {
