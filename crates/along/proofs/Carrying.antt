@@ -5,8 +5,8 @@ use Rattle.std.proofs.Common.{◌≡◌, ℕ, zero, suc, ◌+◌, ◌%◌, ◌^�
 use native.Mathlib.Nat.{mod-mod}
 use lib.Seq.{append_snoc, take-suc-set, drop-set-lt}
 use Rattle.spec.specs.Words.{sum, tab}
-use Rattle.laws.proofs.Lists.{tab_agree}
-use Rattle.laws.proofs.Sums.{sum_first}
+use Rattle.laws.proofs.Lists.{length_tab, get_d_tab, tab_agree}
+use Rattle.laws.proofs.Sums.{sum_agree, sum_first}
 use Rattle.laws.proofs.Kernels.{at}
 use Rattle.laws.proofs.Sequences.{behind, boxed, running, behind_zero, behind_suc, behind_start}
 use Rattle.laws.proofs.Cascades.{spread, spread_one}
@@ -14,7 +14,7 @@ use mathlib.Core.Path.{fun_ext}
 use Rattle.along.specs.declared.stages.Pair.{Pair}
 use Rattle.along.specs.declared.stages.Total.{Total}
 use Rattle.along.specs.declared.stages.Then.{Then}
-use Rattle.along.specs.Private.{repeat, swept, paired, totalled}
+use Rattle.along.specs.Private.{repeat, swept, carried, paired, totalled}
 use Rattle.along.proofs.Modulo.{plus_alike}
 
 module _ {S A : Type 0} (made : S → A → A) (after : S → A → S) where
@@ -59,12 +59,24 @@ module _ {S A : Type 0} (made : S → A → A) (after : S → A → S) where
   written_all i s xs l target h g t =
       sym (append-nil l) ∙ sym (ap₂ (λ a b. a ++ swept made after s b) (take_all i l h) (drop_of_length-le xs {i = i} g)) ∙ t
 
+-- what a stage is after the values that are left
+module _ {S A : Type 0} (after : S → A → S) where
+  pub carried_more : (i : ℕ) (s t : S) (d x : A) (xs : List A) (target : S) → i < length xs → x ≡ get_or xs i d → t ≡ after s x
+      → carried after s (drop i xs) ≡ target → carried after t (drop (i + 1) xs) ≡ target
+  unfolding carried
+  carried_more i s t d x xs target h q f all =
+      ap₂ (carried after) (f ∙ ap (after s) q) (ap (λ n. drop n xs) (add-one i)) ∙ sym (ap (carried after s) (drop-cons xs i d h)) ∙ all
+
+  pub carried_all : (i : ℕ) (s : S) (xs : List A) (target : S) → length xs ≤ i → carried after s (drop i xs) ≡ target → s ≡ target
+  unfolding carried
+  carried_all i s xs target h e = sym (ap (carried after s) (drop_of_length-le xs {i = i} h)) ∙ e
+
 -- two stages at once
 module _ {S T A : Type 0} (m : S → A → A) (a : S → A → S) (n : T → A → A) (b : T → A → T) where
-  abbrev both_made : Then S T → A → A
+  abbrev pub both_made : Then S T → A → A
   both_made p x = n p.second (m p.first x)
 
-  abbrev both_after : Then S T → A → Then S T
+  abbrev pub both_after : Then S T → A → Then S T
   both_after p x = record { first = a p.first x; second = b p.second (m p.first x) }
 
   swept_both : (s : S) (t : T) (xs : List A) → swept both_made both_after record { first = s; second = t } xs ≡ swept n b t (swept m a s xs)
@@ -72,20 +84,25 @@ module _ {S T A : Type 0} (m : S → A → A) (a : S → A → S) (n : T → A �
   swept_both s t [] = refl
   swept_both s t (x ∷ xs) = ap (λ l. n t (m s x) ∷ l) (swept_both (a s x) (b t (m s x)) xs)
 
+  pub carried_first : (s : S) (t : T) (xs : List A) → (carried both_after record { first = s; second = t } xs).first ≡ carried a s xs
+  unfolding carried
+  carried_first s t [] = refl
+  carried_first s t (x ∷ xs) = carried_first (a s x) (b t (m s x)) xs
+
 -- the same stage two, three and four times
 module _ {S A : Type 0} (m : S → A → A) (a : S → A → S) (s : S) (xs : List A) where
   pub swept_two : swept (both_made m a m a) (both_after m a m a) record { first = s; second = s } xs ≡ repeat 2 (swept m a s) xs
   unfolding repeat
   swept_two = swept_both m a m a s s xs
 
-  pub swept_three : swept (both_made (both_made m a m a) (both_after m a m a) m a) (both_after (both_made m a m a) (both_after m a m a) m a)
-      record { first = record { first = s; second = s }; second = s } xs
+module _ {S A : Type 0} (m : S → A → A) (a : S → A → S) (s : S) (xs : List A) where
+  pub swept_three : swept (both_made m a (both_made m a m a) (both_after m a m a)) (both_after m a (both_made m a m a) (both_after m a m a))
+      record { first = s; second = record { first = s; second = s } } xs
       ≡ repeat 3 (swept m a s) xs
   unfolding repeat
   swept_three =
-      swept_both (both_made m a m a) (both_after m a m a) m a record { first = s; second = s } s xs ∙ ap (swept m a s) swept_two
+      swept_both m a (both_made m a m a) (both_after m a m a) s record { first = s; second = s } xs ∙ swept_two m a s (swept m a s xs)
 
-module _ {S A : Type 0} (m : S → A → A) (a : S → A → S) (s : S) (xs : List A) where
   pub swept_four : let m₂ = both_made m a m a in let a₂ = both_after m a m a in let two : Then S S = record { first = s; second = s } in
       swept (both_made m₂ a₂ m₂ a₂) (both_after m₂ a₂ m₂ a₂) record { first = two; second = two } xs ≡ repeat 4 (swept m a s) xs
   unfolding repeat
@@ -132,7 +149,7 @@ module _ (m : ℕ) where
 abbrev total_made : Total → ℕ → ℕ
 total_made s x = (s.total + x) % 2 ^ 64
 
-abbrev total_after : Total → ℕ → Total
+abbrev pub total_after : Total → ℕ → Total
 total_after s x = record { total = (s.total + x) % 2 ^ 64 }
 
 next : (t x : ℕ) (xs : List ℕ) (k : ℕ) → ((t + x) % 2 ^ 64 + running (at xs) k) % 2 ^ 64 ≡ (t + running (at (x ∷ xs)) (suc k)) % 2 ^ 64
@@ -158,3 +175,19 @@ swept_total xs =
 
 pub repeated_totals : (c : ℕ) (xs : List ℕ) → repeat c (swept total_made total_after record { total = 0 }) xs ≡ repeat c totalled xs
 repeated_totals c xs = ap (λ f. repeat c f xs) (fun_ext swept_total)
+
+-- what a running total is after a row
+carried_from : (t : ℕ) (xs : List ℕ) → t < 2 ^ 64 → (carried total_after record { total = t } xs).total ≡ (t + sum (length xs) (at xs)) % 2 ^ 64
+unfolding carried sum at
+carried_from t [] h = omega arith
+carried_from t (x ∷ xs) h =
+    carried_from ((t + x) % 2 ^ 64) xs (omega arith)
+    ∙ plus_alike (2 ^ 64) ((t + x) % 2 ^ 64) (t + x) (sum (length xs) (at xs)) (sum (length xs) (at xs)) (mod-mod (t + x) (2 ^ 64)) refl
+    ∙ ap (λ v. v % 2 ^ 64) (omega (arith, sum_first (at (x ∷ xs)) (length xs)))
+
+pub carried_total : (w : ℕ) (f : ℕ → ℕ) → (carried total_after record { total = 0 } (tab w f)).total ≡ sum w f % 2 ^ 64
+unfolding at
+carried_total w f =
+    carried_from 0 (tab w f) (omega arith)
+    ∙ ap₂ (λ n v. (0 + sum n v) % 2 ^ 64) (length_tab w f) refl
+    ∙ ap (λ v. v % 2 ^ 64) (omega (arith, sum_agree (at (tab w f)) f w (λ k h. get_d_tab w f k 0 h)))

@@ -1,16 +1,14 @@
--- A row of pixels and black places after them, and its total; and boxes counted.
+-- A row of pixels and black places after them; and boxes counted.
 -- Assumes nothing.
 use Rattle.std.proofs.Common.{◌≡◌, ℕ, ◌+◌, ◌-◌, ◌<◌, ◌≤◌, min, List, [], ◌∷◌, ◌++◌, length, get_or, take, drop, replicate, sym, refl, ap, ap₂, ◌∙◌, arith, length-append, length-drop, length-take-le, get_or-take, get_or-drop, get_or-append-add, ext_get_or}
 use Rattle.std.specs.Prelude.{count_by, ◌==◌}
 use Rattle.std.specs.List.{sum_by}
-use Rattle.std.specs.Prelude.{sum as list_sum}
 use Rattle.std.proofs.lemmas.List.{get_or_past}
 use Rattle.std.proofs.lemmas.List.Sums.{sum_by-cons}
 use lib.ListN.{get_or-append, length-replicate, get_or-replicate}
 use native.Mathlib.Decide.{dec_lt}
-use Rattle.spec.specs.Words.{sum, tab, total, occurs}
+use Rattle.spec.specs.Words.{tab, total, occurs}
 use Rattle.laws.proofs.Lists.{tab_agree, tab_get_d}
-use Rattle.laws.proofs.Sums.{sum_agree, sum_first, sum_front}
 use Rattle.laws.proofs.Kernels.{at}
 use Rattle.along.specs.Along.{wide}
 use Rattle.along.specs.Private.{wides}
@@ -51,22 +49,6 @@ black w m h =
     (λ k g.
     let l : k < w = omega (arith, length_black w m h) in
     get_or-take w (replicate m 0) k 0 l ∙ get_or-replicate m k 0 0 (omega arith) ∙ sym (get_or-replicate w k 0 0 l))
-
--- the sum of a list, and of a row that it is loaded to
-sum_list : (xs : List ℕ) → list_sum xs ≡ sum (length xs) (at xs)
-unfolding sum at
-sum_list [] = refl
-sum_list (x ∷ xs) = omega (arith, sum_by-cons (λ n. n) x xs, sum_list xs, sum_first (at (x ∷ xs)) (length xs))
-
-pub sum_loaded : (w : ℕ) (xs : List ℕ) → list_sum (take (min (length xs) w) xs) ≡ sum w (at xs)
-unfolding at
-sum_loaded w xs =
-    let fit = min (length xs) w in
-    let size : length (take fit xs) ≡ fit = length-take-le fit xs (omega arith) in
-    sum_list (take fit xs)
-    ∙ ap (λ n. sum n (at (take fit xs))) size
-    ∙ sum_agree (at (take fit xs)) (at xs) fit (λ k h. get_or-take fit xs k 0 h)
-    ∙ sym (sum_front (at xs) fit w (omega arith) (λ k h g. get_or_past xs k 0 (omega arith)))
 
 -- boxes counted
 count_total : (p : ℕ → ℕ) (xs : List ℕ) → sum_by p xs ≡ total p xs

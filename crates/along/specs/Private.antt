@@ -16,6 +16,11 @@ unfoldable pub swept : {S A : Type 0} → (S → A → A) → (S → A → S) �
 swept made after s [] = []
 swept made after s (x ∷ xs) = made s x ∷ swept made after (after s x) xs
 
+-- what a stage is after a row
+unfoldable pub carried : {S A : Type 0} → (S → A → S) → S → List A → S
+carried after s [] = s
+carried after s (x ∷ xs) = carried after (after s x) xs
+
 -- a box of width 2, modulo m
 unfoldable pub paired : ℕ → List ℕ → List ℕ
 paired m xs = tab (length xs) (λ k. spread 1 2 (at xs) k % m)

@@ -4,7 +4,7 @@
 // differences. Without a wide box the row begins in 16 bits.
 #![tactic(auto)]
 
-ghost use Rattle.std.specs.Prelude.{◌≡◌, ◌-◌, ◌%◌, ◌^◌, ◌≤◌, ◌==◌, min, length, replicate, count_by, sum as list_sum, if◌then◌else◌};
+ghost use Rattle.std.specs.Prelude.{◌≡◌, ◌-◌, ◌%◌, ◌^◌, ◌==◌, min, length, replicate, count_by, if◌then◌else◌};
 ghost use Rattle.spec.specs.Words.{sum, tab, somewhere};
 ghost use Rattle.spec.specs.Recipe.{widths};
 ghost use Rattle.laws.proofs.Kernels.{at};
@@ -31,14 +31,6 @@ fn counted(boxes: &[u8]) -> (usize, usize)
     (twos, wides)
 }
 
-// The total of a row of pixels.
-fn total(pixels: &[u8]) -> u32
-    requires { length pixels.now ≤ 1279 }
-    ensures { result ≡ list_sum pixels.now }
-{
-    pixels.iter().map(|p| u32::from(*p)).sum()
-}
-
 // The pixels, as many as fit, on a row that was black.
 fn load(pixels: &[u8], narrow: &mut [u16])
     requires { narrow.old ≡ replicate (length narrow.old) 0 }
@@ -62,7 +54,7 @@ fn work_pairs(count: usize, narrow: &mut [u16], row: &mut [u64])
 
 // The row list, with a black row in 16 bits to work on.
 fn work(boxes: &[u8], pixels: &[u8], narrow: &mut [u16], row: &mut [u64]) -> u64
-    requires { (narrow.old ≡ replicate (length row.old) 0) × (length row.old ≤ 1279) }
+    requires { narrow.old ≡ replicate (length row.old) 0 }
     ensures { let w = length row.old in let p = at pixels.now in
         (row.new ≡ tab w (λ k. cascaded 1 boxes.now p k % 2 ^ 64))
         × (result ≡ (if somewhere wide boxes.now then sum w p % 2 ^ 64 else 0)) }
@@ -73,10 +65,11 @@ fn work(boxes: &[u8], pixels: &[u8], narrow: &mut [u16], row: &mut [u64]) -> u64
         work_pairs(twos, narrow, row);
         return 0;
     }
-    repeated_from(Total { total: 0 }, wides, narrow, row);
+    // the first running total ends as the total of the pixels
+    let first = repeated_from(Total { total: 0 }, wides, narrow, row);
     repeated(Pair { before: 0 }, twos, row);
     all_apart(boxes, row);
-    u64::from(total(&pixels[..pixels.len().min(row.len())]))
+    first.total
 }
 
 // Works a row list along the pixels of a row and the black places after them, modulo 2^64. What the row

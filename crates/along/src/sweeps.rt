@@ -1,6 +1,6 @@
 // Sweeps along a row, several stages in one: what they carry stays in registers.
 ghost use Rattle.std.specs.Prelude.{◌≡◌, ℕ, ◌<◌, length, slice_index_or};
-ghost use Rattle.along.specs.Private.{repeat, swept};
+ghost use Rattle.along.specs.Private.{repeat, swept, carried};
 
 use crate::stages::{Stage, Then};
 
@@ -45,34 +45,38 @@ pub(crate) fn repeated<S: Stage>(stage: S, count: usize, row: &mut [S::Value])
         2 => sweep(two, row),
         _ => sweep(
             Then {
-                first: two,
-                second: stage,
+                first: stage,
+                second: two,
             },
             row,
         ),
     }
 }
 
-// One sweep of a row in 16 bits.
-fn sweep_from<S: Stage<Value = u64>>(stage: S, narrow: &[u16], row: &mut [u64])
+// One sweep of a row in 16 bits. Returns the stage as it is after it.
+fn sweep_from<S: Stage<Value = u64>>(stage: S, narrow: &[u16], row: &mut [u64]) -> S
     requires { length narrow.now ≡ length row.old }
-    ensures { row.new ≡ swept S.made S.after stage narrow.now }
+    ensures values { row.new ≡ swept S.made S.after stage narrow.now }
+    ensures state { result ≡ carried S.after stage narrow.now }
 {
     let mut stage = stage;
     for (k, x) in row.iter_mut().enumerate() {
         *x = stage.next(u64::from(narrow[k]));
     }
+    stage
 }
 
-// A stage so many times, up to three of them in a first sweep of a row in 16 bits.
+// A stage so many times, up to three of them in a first sweep of a row in 16 bits. Returns the first of
+// them as it is after that sweep.
 pub(crate) fn repeated_from<S: Stage<Value = u64>>(
     stage: S,
     count: usize,
     narrow: &[u16],
     row: &mut [u64],
-)
+) -> S
     requires { (0 < count) × (length narrow.now ≡ length row.old) }
-    ensures { row.new ≡ repeat count (swept S.made S.after stage) narrow.now }
+    ensures values { row.new ≡ repeat count (swept S.made S.after stage) narrow.now }
+    ensures state { result ≡ carried S.after stage narrow.now }
 {
     let two = Then {
         first: stage,
@@ -80,14 +84,15 @@ pub(crate) fn repeated_from<S: Stage<Value = u64>>(
     };
     match count {
         1 => sweep_from(stage, narrow, row),
-        2 => sweep_from(two, narrow, row),
+        2 => sweep_from(two, narrow, row).first,
         _ => {
             let three = Then {
-                first: two,
-                second: stage,
+                first: stage,
+                second: two,
             };
-            sweep_from(three, narrow, row);
+            let after = sweep_from(three, narrow, row);
             repeated(stage, count - 3, row);
+            after.first
         }
     }
 }

@@ -54,7 +54,7 @@ fn next_row(step: usize, n: usize, here: usize, width: usize, src: &[u64], dst: 
     }
 }
 
-// One width down the columns, in rows of so many places.
+// One width down the columns, in rows of so many places: those that are whole, and what there is of one more.
 pub(crate) fn column_pass(step: usize, n: usize, src: &[u64], dst: &mut [u64])
     requires { Ready step n src.now dst.old }
     ensures { Holds (spread step n (at src.now)) dst.new }
@@ -62,10 +62,13 @@ pub(crate) fn column_pass(step: usize, n: usize, src: &[u64], dst: &mut [u64])
     let size = src.len();
     let first = step.min(size);
     dst[..first].copy_from_slice(&src[..first]);
+    let rows = size / step;
     // by number: each row is made of three other places
-    for j in 1..size.div_ceil(step) {
-        let here = j * step;
-        let width = step.min(size - here);
-        next_row(step, n, here, width, src, dst);
+    for j in 1..rows {
+        next_row(step, n, j * step, step, src, dst);
+    }
+    let here = rows * step;
+    if step <= here && here < size {
+        next_row(step, n, here, size - here, src, dst);
     }
 }

@@ -21,7 +21,7 @@ pub work-requires : goal.work-requires
 work-requires c =
     let w = length c.args.row.now in
     let small : w ≤ 1279 = omega arith in
-    (black w 1279 small, small)
+    black w 1279 small
 
 pub returns : goal.returns
 returns c =

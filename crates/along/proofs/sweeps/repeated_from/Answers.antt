@@ -1,7 +1,7 @@
 -- What `search` does not find of `repeated_from`.
 use Rattle.std.proofs.Common.{◌≤◌, sym, refl, ap, ◌∙◌, arith}
 use Rattle.along.specs.Private.{repeat, swept}
-use Rattle.along.proofs.Carrying.{swept_two, swept_three}
+use Rattle.along.proofs.Carrying.{both_made, both_after, swept_two, swept_three, carried_first}
 use Rattle.along.proofs.Rows.{repeat_less}
 use Rattle.along.proofs.sweeps.repeated_from.Goals as goal
 
@@ -9,23 +9,36 @@ pub returns-in-1 : goal.returns-in-1
 unfolding repeat
 returns-in-1 g c =
     let f = swept g.S.Stage.made g.S.Stage.after c.args.stage in
-    c.sweep_from.ensures ∙ ap (λ n. repeat n f c.args.narrow.now) (sym c.in-1.is)
+    record {
+      values = c.sweep_from.ensures.values ∙ ap (λ n. repeat n f c.args.narrow.now) (sym c.in-1.is);
+      state = c.sweep_from.ensures.state;
+    }
 
 pub returns-in-2 : goal.returns-in-2
 returns-in-2 g c =
     let made = g.S.Stage.made in
     let after = g.S.Stage.after in
+    let s = c.args.stage in
     let xs = c.args.narrow.now in
-    c.sweep_from-in-2.ensures
-    ∙ swept_two made after c.args.stage xs
-    ∙ ap (λ n. repeat n (swept made after c.args.stage) xs) (sym c.in-2.is)
+    record {
+      values =
+          c.sweep_from-in-2.ensures.values ∙ swept_two made after s xs ∙ ap (λ n. repeat n (swept made after s) xs) (sym c.in-2.is);
+      state = ap (λ t. t.first) c.sweep_from-in-2.ensures.state ∙ carried_first made after made after s s xs;
+    }
 
 pub returns-in_default : goal.returns-in_default
 returns-in_default g c =
     let made = g.S.Stage.made in
     let after = g.S.Stage.after in
+    let s = c.args.stage in
     let xs = c.args.narrow.now in
     let many : 3 ≤ c.args.count = omega arith in
-    c.repeated.ensures
-    ∙ repeat_less (swept made after c.args.stage) 3 c.args.count xs c.sweep_from-in_default.new.row _ many
-    (c.sweep_from-in_default.ensures ∙ swept_three made after c.args.stage xs) refl
+    let sweep = c.sweep_from-after.ensures in
+    record {
+      values =
+          c.repeated.ensures
+          ∙ repeat_less (swept made after s) 3 c.args.count xs c.sweep_from-after.new.row _ many (sweep.values ∙ swept_three made after s xs) refl;
+      state =
+          ap (λ t. t.first) sweep.state
+          ∙ carried_first made after (both_made made after made after) (both_after made after made after) s record { first = s; second = s } xs;
+    }

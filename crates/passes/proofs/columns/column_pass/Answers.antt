@@ -1,12 +1,11 @@
 -- What `search` does not find of `columns::column_pass`.
 use mathlib.Core.Path.{◌≡◌, sym, ap, ◌∙◌}
 use mathlib.Core.List.{List, ◌++◌}
-use Prim.Native.Nat.{ℕ, ◌+◌, ◌*◌, ◌/◌, ◌%◌, ◌≤◌, ◌<◌, min}
-use native.Mathlib.Nat.{one-mul}
+use Prim.Native.Nat.{ℕ, ◌+◌, ◌*◌, ◌/◌, ◌≤◌, ◌<◌}
+use native.Mathlib.Nat.{one-mul, mul_comm}
 use native.Mathlib.Omega.{arith}
 use lib.ListN.{length, take, drop, length-append, length-drop, get_or-append}
 use lib.Seq.{length-take-le, get_or-take}
-use Rattle.std.proofs.lemmas.Grind.{div_ceil_times}
 use Rattle.laws.proofs.Numbers.{row_fits}
 use Rattle.laws.proofs.Kernels.{at}
 use Rattle.laws.proofs.Cascades.{spread}
@@ -24,9 +23,9 @@ first_row s n first src new rest w h l e k g =
     ∙ get_or-take first src k 0 g
     ∙ sym (spread_first s n (at src) k w (omega arith))
 
--- where a row begins that there is
-begins : (s j size : ℕ) → 0 < s → j < size / s + min 1 (size % s) → j * s < size
-begins s j size h g = omega (arith, (div_ceil_times size s h).1, row_fits s j (size / s + min 1 (size % s)) g)
+-- where a row ends that is whole
+whole_row : (s j size : ℕ) → 0 < s → j < size / s → j * s + s ≤ size
+whole_row s j size h g = omega (arith, row_fits s j (size / s) g, mul_comm (size / s) s)
 
 pub loop-j-init : goal.loop-j-init
 loop-j-init c =
@@ -42,12 +41,12 @@ next_row-requires c =
     let rest = drop c.min-first.result args.dst.now in
     let copied : length part ≡ c.min-first.result = ap length c.copy_from_slice.ensures.after ∙ length-take-le c.min-first.result args.src.now (omega arith) in
     let whole : length (part ++ rest) ≡ length args.dst.now = omega (arith, copied, c.requires.size, length-append part rest, length-drop c.min-first.result args.dst.now) in
-    let here : turn.j * args.step < length args.src.now = begins args.step turn.j (length args.src.now) c.requires.apart (omega arith) in
+    let inside = whole_row args.step turn.j (length args.src.now) c.requires.apart c.loop-j-test.true in
     record {
       ready = still_ready args.step args.n _ args.dst.now _ c.requires (turn.auto.dst ∙ whole);
       below = row_within args.step turn.j (omega arith);
       short = omega arith;
-      inside = omega arith;
+      inside = inside;
       whole = λ h. row_before args.step args.n turn.j h;
-      sums = λ k l. turn.invariant k (omega arith);
+      sums = λ k l. turn.invariant k (omega (arith, inside));
     }
