@@ -12,8 +12,7 @@ pub use stdio::Progress;
 // How many fillings are asked for at most: a grown picture has at most 1,279 rows.
 const CALLS: usize = 1280;
 
-// Writes as many bytes of a text, from the first on, up to a write that fails. It takes the text whole: of a
-// part that is lent, what its front was is not known afterwards.
+// Writes as many bytes of a text, from the first on, up to a write that fails.
 fn write<W: Write>(writer: &mut W, text: &[u8; 65536], end: usize) -> Progress
     requires { end ≤ 65536 }
     ensures bound { result.count ≤ end }
