@@ -8,13 +8,13 @@ use native.Mathlib.Decide.{dec_lt}
 use native.Mathlib.Omega.{arith}
 use lib.ListN.{length, get_or, take, drop, set, length-drop, drop_of_length-le, get_or-append}
 use borrow.Rule.Slice.PartMut.{put_mid}
-use lib.Seq.{ext_get_or, take_at, drop_at, get_or-take, get_or-drop, get_or-append-add, drop-length}
+use lib.Seq.{ext_get_or, take_at, drop_at, get_or-take, get_or-drop, get_or-append-add, drop-length, take_all}
 use Rattle.spec.specs.declared.Cascade.{Cascade}
 use Rattle.spec.specs.declared.Filter.{Filter}
 use Rattle.spec.specs.Words.{tab, part}
 use native.Mathlib.Nat.{add-zero}
 use native.Mathlib.Numerals.{one-add}
-use Rattle.laws.proofs.Lists.{tab_agree, tab_get_d, get_d_tab, part_within}
+use Rattle.laws.proofs.Lists.{tab_agree, tab_get_d, get_d_tab, part_take, part_within}
 use Rattle.blocks.specs.Given.{list_at, given, block_of}
 
 -- a list whose count and widths stand at a place
@@ -109,6 +109,11 @@ given_one a b la lb e =
       | yes v ↦ list_bytes 0 a b (ap (λ (f : Filter). f.rows) e) k (omega arith) (omega arith)
       | no v ↦ list_bytes 49 a b (ap (λ (f : Filter). f.columns) e) k (omega arith) (omega arith)
     ])
+
+-- a block is that of the recipe that it stands for
+pub own_block : (block : List ℕ) → length block ≡ 98 → block ≡ block_of (given block)
+unfolding given list_at block_of part tab
+own_block block size = sym (part_take 98 block (omega arith) ∙ take_all 98 block (omega arith))
 
 -- two blocks of three words that have the same words are the same
 pub words_one : (a b : List ℕ) → length a ≡ 3 → length b ≡ 3 → get_or a 0 0 ≡ get_or b 0 0 → get_or a 1 0 ≡ get_or b 1 0 → get_or a 2 0 ≡ get_or b 2 0

@@ -1,15 +1,18 @@
--- A total and a weight over the front of a list of widths, the weight held at a limit.
+-- A total and a weight over the front of a list of widths, the weight held at a limit; and the width at a
+-- place.
 -- Assumes nothing.
 use mathlib.Core.Path.{◌≡◌, refl, sym, ap, ap₂, ◌∙◌}
-use mathlib.Core.List.{List}
-use Prim.Native.Nat.{ℕ, ◌+◌, ◌*◌, ◌≤◌, ◌<◌, min}
-use native.Mathlib.Nat.{mul-add, mul-one, mul_assoc}
+use mathlib.Core.List.{List, [], ◌∷◌}
+use Prim.Native.Nat.{ℕ, suc, ◌+◌, ◌*◌, ◌≤◌, ◌<◌, min}
+use native.Mathlib.Nat.{zero-add, mul-add, mul-one, mul_assoc}
 use native.Mathlib.Omega.{arith}
-use lib.ListN.{length, get_or, take}
-use lib.Seq.{take_all}
-use Rattle.spec.specs.Words.{total}
-use Rattle.spec.specs.Recipe.{weight}
-use Rattle.laws.proofs.Lists.{total_more, product_more}
+use lib.ListN.{length, get_or, take, drop, drop_of_length-le, get_or-eq_default}
+use lib.Seq.{drop-cons, take_all}
+use Rattle.spec.specs.declared.Cascade.{Cascade}
+use Rattle.spec.specs.Words.{part, total}
+use Rattle.spec.specs.Recipe.{widths, weight}
+use Rattle.laws.proofs.Lists.{get_d_tab, total_more, product_more}
+use Rattle.laws.proofs.Boxes.{length_widths}
 use Rattle.laws.proofs.Numbers.{cap_times}
 
 -- A loop over widths that adds up f, no term of which is above most, after i of them.
@@ -43,3 +46,18 @@ capped_more g₀ cap ws i g r h p q =
     ∙ ap (λ x. min (x * get_or ws i 0) cap) p
     ∙ cap_times (g₀ * weight (take i ws)) (get_or ws i 0) cap
     ∙ ap (λ x. min x cap) (mul_assoc g₀ (weight (take i ws)) (get_or ws i 0) ∙ ap (λ x. g₀ * x) (sym (product_more ws i h)))
+
+-- the width at a place: it stands there in the array, and past the count it is 0
+pub width_stored : (c : Cascade) (i : ℕ) → i < c.count → get_or (widths c) i 0 ≡ get_or c.widths i 0
+unfolding widths part
+width_stored c i h = get_d_tab c.count (λ k. get_or c.widths (0 + k) 0) i 0 h ∙ ap (λ k. get_or c.widths k 0) (zero-add i)
+
+pub width_past : (c : Cascade) (i : ℕ) → c.count ≤ i → get_or (widths c) i 0 ≡ 0
+width_past c i h = get_or-eq_default (widths c) 0 (rw length_widths h)
+
+-- the widths from a place on: the one there, and those after it
+pub widths_on : (c : Cascade) (i : ℕ) → i < c.count → drop i (widths c) ≡ get_or (widths c) i 0 ∷ drop (suc i) (widths c)
+widths_on c i h = drop-cons (widths c) i 0 (rw length_widths h)
+
+pub widths_past : (c : Cascade) (i : ℕ) → c.count ≤ i → drop i (widths c) ≡ []
+widths_past c i h = drop_of_length-le (widths c) (rw length_widths h)

@@ -168,6 +168,22 @@ own_weight w by d = ap (λ (x : Divisor). x.weight) d.is
 pub divides_own : (w : ℕ) (by : Divisor) → Divides w by → Divides by.weight by
 divides_own w by d = subst (λ v. Divides v by) (sym (own_weight w by d)) d
 
+-- what shifts for a weight: 2 to the power of the places is that weight
+abbrev places_of : Way → ℕ
+places_of (Shift places) = places
+places_of (Reciprocal reciprocal) = 0
+
+abbrev shifts : Way → ℕ
+shifts (Shift places) = 1
+shifts (Reciprocal reciprocal) = 0
+
+pub single_shift : (w : ℕ) (by : Divisor) → Divides w by → (places : ℕ) → by.way ≡ Shift places → (2 ^ places ≡ w) × (places < 64)
+single_shift w by d places e = go (eqb (ones w) 1) refl (ap (λ (x : Divisor). x.way) (sym d.is) ∙ e)
+  where
+    go : (b : Bool) → eqb (ones w) 1 ≡ b → way_by b w ≡ Shift places → (2 ^ places ≡ w) × (places < 64)
+    go true one way = subst (λ k. (2 ^ k ≡ w) × (k < 64)) (ap places_of way) (single_bit 64 w (omega (arith, d.light)) (eqb-true (ones w) 1 one))
+    go false one way = absurd (omega (arith, ap shifts way))
+
 -- a quotient that is a grey
 pub rounded_gray : (most w : ℕ) (by : Divisor) → Divides w by → Suits most → (s q : ℕ) → s ≤ most * w → q ≡ quotient by s → (q ≡ gray w s) × (q ≤ most)
 rounded_gray most w by d suits s q bounded e =
