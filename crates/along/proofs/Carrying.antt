@@ -71,6 +71,10 @@ module _ {S A : Type 0} (after : S → A → S) where
   unfolding carried
   carried_all i s xs target h e = sym (ap (carried after s) (drop_of_length-le xs {i = i} h)) ∙ e
 
+-- three of one kind, side by side
+abbrev pub three_of : {S : Type 0} → S → S → S → Then S (Then S S)
+three_of a b c = record { first = a; second = record { first = b; second = c } }
+
 -- two stages at once
 module _ {S T A : Type 0} (m : S → A → A) (a : S → A → S) (n : T → A → A) (b : T → A → T) where
   abbrev pub both_made : Then S T → A → A

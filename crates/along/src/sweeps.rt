@@ -66,6 +66,24 @@ fn sweep_from<S: Stage<Value = u64>>(stage: S, narrow: &[u16], row: &mut [u64]) 
     stage
 }
 
+// A stage three times in one sweep of a row in 16 bits. Returns the first of them as it is after it. What the
+// three carry stands side by side, so that it can be told whether one goes on from another.
+fn three_from<S: Stage<Value = u64>>(stage: S, narrow: &[u16], row: &mut [u64]) -> S
+    requires { length narrow.now ≡ length row.old }
+    ensures values { row.new ≡ repeat 3 (swept S.made S.after stage) narrow.now }
+    ensures state { result ≡ carried S.after stage narrow.now }
+{
+    let mut first = stage;
+    let mut second = stage;
+    let mut third = stage;
+    for (k, x) in row.iter_mut().enumerate() {
+        let y = first.next(u64::from(narrow[k]));
+        let z = second.next(y);
+        *x = third.next(z);
+    }
+    first
+}
+
 // A stage so many times, up to three of them in a first sweep of a row in 16 bits. Returns the first of
 // them as it is after that sweep.
 pub(crate) fn repeated_from<S: Stage<Value = u64>>(
@@ -86,13 +104,9 @@ pub(crate) fn repeated_from<S: Stage<Value = u64>>(
         1 => sweep_from(stage, narrow, row),
         2 => sweep_from(two, narrow, row).first,
         _ => {
-            let three = Then {
-                first: stage,
-                second: two,
-            };
-            let after = sweep_from(three, narrow, row);
+            let first = three_from(stage, narrow, row);
             repeated(stage, count - 3, row);
-            after.first
+            first
         }
     }
 }

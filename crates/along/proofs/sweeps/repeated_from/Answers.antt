@@ -1,7 +1,7 @@
 -- What `search` does not find of `repeated_from`.
 use Rattle.std.proofs.Common.{◌≤◌, sym, refl, ap, ◌∙◌, arith}
 use Rattle.along.specs.Private.{repeat, swept}
-use Rattle.along.proofs.Carrying.{both_made, both_after, swept_two, swept_three, carried_first}
+use Rattle.along.proofs.Carrying.{swept_two, carried_first}
 use Rattle.along.proofs.Rows.{repeat_less}
 use Rattle.along.proofs.sweeps.repeated_from.Goals as goal
 
@@ -28,17 +28,11 @@ returns-in-2 g c =
 
 pub returns-in_default : goal.returns-in_default
 returns-in_default g c =
-    let made = g.S.Stage.made in
-    let after = g.S.Stage.after in
     let s = c.args.stage in
     let xs = c.args.narrow.now in
     let many : 3 ≤ c.args.count = omega arith in
-    let sweep = c.sweep_from-after.ensures in
+    let sweep = c.three_from-first.ensures in
     record {
-      values =
-          c.repeated.ensures
-          ∙ repeat_less (swept made after s) 3 c.args.count xs c.sweep_from-after.new.row _ many (sweep.values ∙ swept_three made after s xs) refl;
-      state =
-          ap (λ t. t.first) sweep.state
-          ∙ carried_first made after (both_made made after made after) (both_after made after made after) s record { first = s; second = s } xs;
+      values = c.repeated.ensures ∙ repeat_less (swept g.S.Stage.made g.S.Stage.after s) 3 c.args.count xs c.three_from-first.new.row _ many sweep.values refl;
+      state = sweep.state;
     }
